@@ -1,0 +1,14 @@
+use borrow.Author.Needs.{needs}
+use native.Mathlib.Omega.{arith}
+use native.Mathlib.Nat.{add-assoc}
+use Rattle.std.proofs.shelf.Lists.{getD-past}
+use Rattle.layout.specs.Bytes.{u16-at, u32-at}
+use Rattle.layout.proofs.bytes.u32_at.Needs as need
+
+pub returns-then-at-file : need.returns-then-at-file
+unfolding u32-at u16-at
+returns-then-at-file c = simp add-assoc (search needs)
+
+pub returns-else-at-file : need.returns-else-at-file
+unfolding u32-at u16-at
+returns-else-at-file c = grind (arith, getD-past)

@@ -1,0 +1,4 @@
+//! Where the numbers of a sheet stand in its file.
+
+mod bytes;
+pub mod fields;

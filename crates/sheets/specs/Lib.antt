@@ -1,0 +1,4 @@
+pub mod Cells
+pub mod Decoded
+pub mod Sheets
+pub mod Tables
