@@ -8,21 +8,21 @@ use Rattle.layout.specs.Bytes.{u16-at, u32-at, i32-at}
 
 -- the fields of the header
 module _ (b : List ℕ) where
-  unfoldable pub kind : ℕ
+  abbrev pub kind : ℕ
   kind = u16-at b 0
-  unfoldable pub contracts : ℕ
+  abbrev pub contracts : ℕ
   contracts = u16-at b 2
-  unfoldable pub scenarios : ℕ
+  abbrev pub scenarios : ℕ
   scenarios = u16-at b 4
-  unfoldable pub factors : ℕ
+  abbrev pub factors : ℕ
   factors = u16-at b 6
-  unfoldable pub contract-area : ℕ
+  abbrev pub contract-area : ℕ
   contract-area = u32-at b 8
-  unfoldable pub scenario-area : ℕ
+  abbrev pub scenario-area : ℕ
   scenario-area = u32-at b 12
-  unfoldable pub stated-length : ℕ
+  abbrev pub stated-length : ℕ
   stated-length = u32-at b 16
-  unfoldable pub payoff : ℕ
+  abbrev pub payoff : ℕ
   payoff = u32-at b 20
 
   -- the bytes of one contract record, and of the two areas; a sheet of strikes has an empty scenario area
