@@ -9,11 +9,9 @@ use Rattle.std.specs.declared.option.Option.the-variants.{Some, None}
 use Rattle.std.specs.declared.result.Result.{Result}
 use Rattle.std.specs.declared.result.Result.the-variants.{Ok, Err}
 use Rattle.refusals.specs.declared.Refusal.{Refusal}
-use Rattle.scenario.specs.Table.{ScenarioTable}
-use Rattle.scenario.specs.Pairs.{pair-table}
 use Rattle.scenario.specs.declared.pairing.Pair.{Pair}
 use Rattle.sheets.specs.declared.kinds.Sheet.{Sheet}
-use Rattle.sheets.specs.Tables.{table-of, Holds}
+use Rattle.sheets.specs.Tables.{Holds}
 use Rattle.sheet_set.specs.declared.sets.SheetSet.{SheetSet}
 
 abbrev pub Eight : Type 0
@@ -40,10 +38,3 @@ Added (Ok (Some place)) b before after =
     (place ≡ before .read) × (place < 8) × (after .read ≡ place + 1) × ((x : Sheet) × Put x b place (sheets-of (before .sheets)) (sheets-of (after .sheets)))
 Added (Ok None) b before after = (8 ≤ before .read) × (after ≡ before)
 Added (Err e) b before after = after ≡ before
-
--- the table that the eight mean together
-abbrev pub eight-table : Eight → ScenarioTable
-eight-table m =
-    pair-table
-    (pair-table (pair-table (table-of (m .first .first .first)) (table-of (m .first .first .second))) (pair-table (table-of (m .first .second .first)) (table-of (m .first .second .second))))
-    (pair-table (pair-table (table-of (m .second .first .first)) (table-of (m .second .first .second))) (pair-table (table-of (m .second .second .first)) (table-of (m .second .second .second))))

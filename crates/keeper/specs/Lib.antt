@@ -1,0 +1,4 @@
+pub mod Order
+pub mod Kept
+pub mod Greatest
+pub mod Cells
