@@ -1,9 +1,8 @@
 -- A text may be cut where a run of spaces, or of other bytes, ends. Assumes nothing.
-use mathlib.Core.Path.{_≡_, refl, sym, ap, subst, _∙_}
+use mathlib.Core.Path.{_≡_, refl, subst}
 use mathlib.Core.Bool.{Bool, true, false, cond, Bool·beq}
 use mathlib.Core.List.{List, [], _∷_}
-use mathlib.Core.Logic.{⊎-elim}
-use Prim.Native.Nat.{ℕ, zero, suc, _+_, _-_, _<_, _≤_}
+use Prim.Native.Nat.{ℕ, zero, suc, _+_, _<_}
 use native.Mathlib.Numerals.{one-add}
 use native.Mathlib.Omega.{arith}
 use lib.ListN.{length, getD}
@@ -11,8 +10,8 @@ use Rattle.std.specs.Text.{Utf8}
 use Rattle.std.specs.Words.{Boundary}
 use Rattle.std.specs.shelf.Lists.{leading}
 use Rattle.std.proofs.shelf.Sums.{leading-le-length}
-use Rattle.std.proofs.shelf.Tests.{eqb-true, cases-bool, cases-order, both-ways}
-use Rattle.std.proofs.shelf.Text.{boundary-start, boundary-end, boundary-before-ascii, boundary-after-ascii}
+use Rattle.std.proofs.shelf.Tests.{eqb-true, both-ways}
+use Rattle.std.proofs.shelf.Text.{boundary-start, boundary-after-ascii}
 use Rattle.console.specs.Words.{is-space, is-space-or-not, run-length}
 
 module _ (p : ℕ → Bool) where
@@ -56,7 +55,6 @@ run-boundary true bs u = after-spaces (run-length true bs) refl
 run-boundary false bs u = (
   leading-le-length (is-space-or-not false) bs,
   λ inside high.
-      let n = run-length false bs in
       let space : getD bs (run-length false bs) 0 ≡ 32 = space-from-false (getD bs (run-length false bs) 0) (is-space (getD bs (run-length false bs) 0)) refl (leading-stops (is-space-or-not false) bs inside) in
       absurd (omega arith),
 )

@@ -1,6 +1,6 @@
-use Prim.Native.Nat.{_+_, _≤_}
+use Prim.Native.Nat.{_+_}
 use mathlib.Core.Path.{_≡_}
-use lib.ListN.{drop, length}
+use lib.ListN.{drop}
 use Rattle.console.specs.Words.{run-length}
 use Rattle.console.proofs.words.run_length.Given as given
 

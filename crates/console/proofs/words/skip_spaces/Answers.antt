@@ -1,4 +1,4 @@
-use mathlib.Core.Path.{_≡_, sym, ap, _∙_}
+use mathlib.Core.Path.{_≡_, ap, _∙_}
 use mathlib.Core.Bool.{true}
 use Rattle.console.specs.Words.{run-length, unspaced, words}
 use Rattle.console.proofs.Cutting.{unspaced-dark, words-unspaced}

@@ -1,0 +1,10 @@
+pub mod Every
+pub mod Figures
+pub mod Laws
+pub mod Losses
+pub mod Markets
+pub mod Positions
+pub mod Priced
+pub mod Sums
+pub mod Used
+pub mod Worst
