@@ -45,8 +45,10 @@ module _ (b : List ℕ) where
   -- the fields of a sheet of factors: its contract records, and the rows of its scenarios
   unfoldable pub right-record : ℕ → Bool
   right-record j = leb (second b j) 10000 && every (factors b) (λ f. within 12500000 (exposure b j f))
+
   unfoldable pub factors-within : ℕ → ℕ → Bool
   factors-within n s = every (factors b) (λ f. within n (factor-shock b s f))
+
   -- the row of contract record j in a sheet of series
   unfoldable pub series-within : ℕ → ℕ → Bool
   series-within n j = every (scenarios b) (λ s. within n (series-shock b j s))
@@ -55,8 +57,8 @@ module _ (b : List ℕ) where
   right-fields =
       cond (eqb (kind b) 3) (between 1 100000000 (payoff b)) (eqb (payoff b) 0)
       && cond (eqb (kind b) 1)
-          (every (contracts b) right-record && every (scenarios b) (factors-within 10000))
-          (every (contracts b) (λ j. eqb (second b j) 0) && cond (eqb (kind b) 2) (every (contracts b) (series-within 100000000)) true)
+      (every (contracts b) right-record && every (scenarios b) (factors-within 10000))
+      (every (contracts b) (λ j. eqb (second b j) 0) && cond (eqb (kind b) 2) (every (contracts b) (series-within 100000000)) true)
 
   unfoldable pub unmoved-first : Bool
   unmoved-first =

@@ -2,7 +2,6 @@
 
 ghost use mathlib.Core.Path.{_≡_};
 ghost use Rattle.inspection.specs.Causes.{wrong-length, wrong-kind, right-counts, overlap, wrong-area};
-
 use layout::fields::FACTORS;
 use layout::fields::SERIES;
 use layout::fields::STRIKES;
@@ -54,7 +53,12 @@ pub(crate) fn has_right_counts(file: &[u8]) -> bool
     let s = scenario_count(file);
     let f = factor_count(file);
     match kind_of(file) {
-        FACTORS => 1 <= n && n <= MOST_CONTRACTS && 1 <= s && s <= MOST_SCENARIOS && 1 <= f && f <= MOST_FACTORS,
+        FACTORS => 1 <= n
+            && n <= MOST_CONTRACTS
+            && 1 <= s
+            && s <= MOST_SCENARIOS
+            && 1 <= f
+            && f <= MOST_FACTORS,
         SERIES => 1 <= n && n <= MOST_CONTRACTS && 1 <= s && s <= MOST_SCENARIOS && f == 0,
         _ => 1 <= n && n <= MOST_STRIKES && s == n + 1 && f == 0,
     }

@@ -7,7 +7,6 @@ ghost use lib.Dec.{eqb, ltb, leb};
 ghost use Rattle.layout.specs.Fields.{contracts, scenarios, factors, number, second, exposure, factor-shock, series-shock};
 ghost use Rattle.inspection.specs.Tests.{every, within};
 ghost use Rattle.inspection.specs.Causes.{right-numbers, right-record, factors-within, series-within, right-fields, unmoved-first};
-
 use crate::words::is_within;
 use layout::fields::FACTORS;
 use layout::fields::SERIES;

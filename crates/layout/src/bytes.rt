@@ -28,7 +28,12 @@ pub(crate) fn u32_at(file: &[u8], at: usize) -> u32
     ensures { λ r. ⌜ r ≡ u32-at (now (file .entry)) at ⌝ }
 {
     if at < file.len() {
-        u32::from_le_bytes([file[at], byte_at(file, at + 1), byte_at(file, at + 2), byte_at(file, at + 3)])
+        u32::from_le_bytes([
+            file[at],
+            byte_at(file, at + 1),
+            byte_at(file, at + 2),
+            byte_at(file, at + 3),
+        ])
     } else {
         0
     }

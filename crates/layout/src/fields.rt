@@ -3,7 +3,6 @@
 ghost use mathlib.Core.Path.{_≡_};
 ghost use Prim.Native.Nat.{ℕ, _+_, _*_, _<_, _^_};
 ghost use Rattle.layout.specs.Fields.{kind, contracts, scenarios, factors, contract-area, scenario-area, stated-length, payoff, record-bytes, contract-bytes, scenario-bytes, number, second, exposure, factor-shock, series-shock};
-
 use crate::bytes::i32_at;
 use crate::bytes::u16_at;
 use crate::bytes::u32_at;

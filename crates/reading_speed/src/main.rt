@@ -47,7 +47,10 @@ fn timed(rt: &LibcRuntime, path: &str) -> io::Result<()> {
     let sum = total(&sheet);
     let asked = again.elapsed(rt)?.as_micros();
     println!(rt, "{path} accepted {accepted} sum {sum}")?;
-    eprintln!(rt, "{path}: {FILLS} fills in {filled} microseconds, {SHOCKS} shocks in {asked}")
+    eprintln!(
+        rt,
+        "{path}: {FILLS} fills in {filled} microseconds, {SHOCKS} shocks in {asked}"
+    )
 }
 
 fn main(rt: LibcRuntime) -> io::Result<()> {

@@ -3,7 +3,6 @@
 ghost use mathlib.Core.Path.{_≡_};
 ghost use Rattle.refusals.specs.Numbers.{number-of, text-of};
 ghost use Rattle.std.specs.declared.option.Option.the-variants.{Some};
-
 use std::fmt;
 
 /// A cause of refusal. Where several hold of a call, the one that stands first here counts.
@@ -79,10 +78,13 @@ impl Refusal {
         ensures { λ r. ⌜ now r ≡ text-of self ⌝ }
     {
         match self {
-            Refusal::WrongLength => "the file is shorter than 24 bytes, longer than 65536, or not as long as it says",
+            Refusal::WrongLength =>
+                "the file is shorter than 24 bytes, longer than 65536, or not as long as it says",
             Refusal::WrongKind => "the kind of sheet is not 1, 2 or 3",
-            Refusal::WrongCount => "a count of contracts, scenarios or factors is outside its range",
-            Refusal::WrongArea => "an area starts before byte 24, ends past the file or overlaps the other",
+            Refusal::WrongCount =>
+                "a count of contracts, scenarios or factors is outside its range",
+            Refusal::WrongArea =>
+                "an area starts before byte 24, ends past the file or overlaps the other",
             Refusal::WrongNumber => "a contract number is above 255 or not above the one before",
             Refusal::WrongField => "a field is outside its range",
             Refusal::MovedFirst => "a shock of scenario 0 is not zero",

@@ -57,8 +57,14 @@ impl SheetSet {
         ensures none { λ r. ⌜ r .read ≡ 0 ⌝ }
         ensures empty { λ r. ⌜ map kind-in (sheets-of (r .sheets)) ≡ replicate 8 0 ⌝ }
     {
-        let first = Pair { first: two(), second: two() };
-        let second = Pair { first: two(), second: two() };
+        let first = Pair {
+            first: two(),
+            second: two(),
+        };
+        let second = Pair {
+            first: two(),
+            second: two(),
+        };
         SheetSet {
             sheets: Pair { first, second },
             read: 0,

@@ -62,12 +62,12 @@ module _ (b : List ℕ) (c : ℕ) where
           (omega (arith, r .0), ap (number b) (sym q) ∙ r .1)
       go None f rec = ⊎-elim
           (λ (t : eqb (number b n) c ≡ true).
-            let same : Some n ≡ Some i = sym (next n f ∙ cond-true _ _ _ t) ∙ e in
-            let q : n ≡ i = cc in
-            (omega arith, ap (number b) (sym q) ∙ eqb-true _ _ t))
+          let same : Some n ≡ Some i = sym (next n f ∙ cond-true _ _ _ t) ∙ e in
+          let q : n ≡ i = cc in
+          (omega arith, ap (number b) (sym q) ∙ eqb-true _ _ t))
           (λ (t : eqb (number b n) c ≡ false).
-            let same : None ≡ Some i = sym (next n f ∙ cond-false _ _ _ t) ∙ e in
-            let z : _≡_ {A = ℕ} 0 1 = cc in absurd (omega arith))
+          let same : None ≡ Some i = sym (next n f ∙ cond-false _ _ _ t) ∙ e in
+          let z : _≡_ {A = ℕ} 0 1 = cc in absurd (omega arith))
           (cases-bool (eqb (number b n) c))
 
 -- in an accepted file no contract above 255 is found

@@ -75,8 +75,8 @@ module _ (row : ℕ → Option ℕ) (n : ℕ) (multiplier : ℕ → ℕ) (shock 
     shock-high = λ c s. high (shock-of (row c) s) (bounded-at (row c) s bounded);
     unknown-still = λ c s e. unknown-at (row c) s e;
     missing-still = λ c k m s e h.
-      let q = placed (row c) k m e small .0 in
-      missing-at (row c) s (subst (λ (x : ℕ). cond (eqb x 0) n 0 ≤ s) q h);
+        let q = placed (row c) k m e small .0 in
+        missing-at (row c) s (subst (λ (x : ℕ). cond (eqb x 0) n 0 ≤ s) q h);
   }
     where
       not-first : (k : ℕ) → k < 1 → eqb k 0 ≡ false → ⊥

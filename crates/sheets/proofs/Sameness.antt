@@ -39,8 +39,8 @@ module _ (b : List ℕ) (row : ℕ → Option ℕ) (n : ℕ) (multiplier : ℕ �
       go (Some j) e =
           ⊎-elim
           (λ (l : s < scenarios b).
-            let t = lt-ltb s (scenarios b) l in
-            cond-true _ _ _ t ∙ (moves j s (found b c (contracts b) j e .0) l ∙ sym (cond-true _ _ _ t)))
+          let t = lt-ltb s (scenarios b) l in
+          cond-true _ _ _ t ∙ (moves j s (found b c (contracts b) j e .0) l ∙ sym (cond-true _ _ _ t)))
           (λ l. let t = le-ltb s (scenarios b) l in cond-false _ _ _ t ∙ sym (cond-false _ _ _ t))
           (cases-lt s (scenarios b))
       go None e = refl
@@ -48,11 +48,11 @@ module _ (b : List ℕ) (row : ℕ → Option ℕ) (n : ℕ) (multiplier : ℕ �
   pub same-table : rows-table row n multiplier shock ≡ sheet-table b
   unfolding sheet-table
   same-table = λ i. record {
-      subportfolios = 1;
-      scenarios = λ k. cond (eqb k 0) (wide i) 0;
-      place = λ c. places c i;
-      shock = λ c s. shocks c s i;
-    }
+    subportfolios = 1;
+    scenarios = λ k. cond (eqb k 0) (wide i) 0;
+    place = λ c. places c i;
+    shock = λ c s. shocks c s i;
+  }
 
 -- the multiplier that a file gives, by its kind
 pub factor-times : (b : List ℕ) → kind b ≡ 1 → (j : ℕ) → cond (eqb (kind b) 1) (second b j) 0 ≡ second b j

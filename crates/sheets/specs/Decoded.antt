@@ -13,11 +13,11 @@ use Rattle.scenario.specs.Table.{ScenarioTable}
 -- the table of one subportfolio with n scenarios, where a contract has a record, and a record a multiplier and shocks
 abbrev pub rows-table : (ℕ → Option ℕ) → ℕ → (ℕ → ℕ) → (ℕ → ℕ → ℤ) → ScenarioTable
 rows-table row n multiplier shock = record {
-    subportfolios = 1;
-    scenarios = λ k. cond (eqb k 0) n 0;
-    place = λ c. elim (row c) [ Some j ↦ Some (0, multiplier j) | None ↦ None ];
-    shock = λ c s. elim (row c) [ Some j ↦ cond (ltb s n) (shock j s) (pos 0) | None ↦ pos 0 ];
-  }
+  subportfolios = 1;
+  scenarios = λ k. cond (eqb k 0) n 0;
+  place = λ c. elim (row c) [ Some j ↦ Some (0, multiplier j) | None ↦ None ];
+  shock = λ c s. elim (row c) [ Some j ↦ cond (ltb s n) (shock j s) (pos 0) | None ↦ pos 0 ];
+}
 
 -- the record of a contract, in a list with a place for each contract number
 abbrev pub record-in : List (Option ℕ) → ℕ → Option ℕ

@@ -35,11 +35,11 @@ module _ (b : List ℕ) where
   -- what an accepted file means
   unfoldable pub sheet-table : ScenarioTable
   sheet-table = record {
-      subportfolios = 1;
-      scenarios = λ k. cond (eqb k 0) (scenarios b) 0;
-      place = λ c. elim (find b c (contracts b)) [ Some j ↦ Some (0, cond (eqb (kind b) 1) (second b j) 0) | None ↦ None ];
-      shock = λ c s. elim (find b c (contracts b)) [ Some j ↦ cond (ltb s (scenarios b)) (record-shock j s) (pos 0) | None ↦ pos 0 ];
-    }
+    subportfolios = 1;
+    scenarios = λ k. cond (eqb k 0) (scenarios b) 0;
+    place = λ c. elim (find b c (contracts b)) [ Some j ↦ Some (0, cond (eqb (kind b) 1) (second b j) 0) | None ↦ None ];
+    shock = λ c s. elim (find b c (contracts b)) [ Some j ↦ cond (ltb s (scenarios b)) (record-shock j s) (pos 0) | None ↦ pos 0 ];
+  }
 
 -- the empty sheet knows no contract
 abbrev pub empty-table : ScenarioTable

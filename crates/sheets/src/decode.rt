@@ -12,7 +12,6 @@ ghost use Rattle.rounding.specs.Rounding.{parts, nearest};
 ghost use Rattle.sheets.specs.Sheets.{find, moved-by-factors, record-shock};
 ghost use Rattle.sheets.specs.Cells.{shock-cell, multiplier-cell};
 ghost use Rattle.sheets.specs.Decoded.{record-in, cell-in};
-
 use crate::index::Index;
 use crate::multipliers::Multipliers;
 use crate::shocks::Shocks;
@@ -58,14 +57,21 @@ pub(crate) fn read_index(file: &[u8]) -> Index
 {
     let mut records = [None; 256];
     write_records(file, &mut records);
-    Index { count: contract_count(file), records }
+    Index {
+        count: contract_count(file),
+        records,
+    }
 }
 
 fn slot_at(file: &[u8], j: usize) -> u16
     ensures { λ r. ⌜ r ≡ multiplier-cell (now (file .entry)) j ⌝ }
 {
     let count = contract_count(file);
-    if j < count as usize { second_at(file, j as u16) } else { 0 }
+    if j < count as usize {
+        second_at(file, j as u16)
+    } else {
+        0
+    }
 }
 
 fn write_multipliers(file: &[u8], out: &mut [u16])
@@ -141,7 +147,11 @@ fn shock_of(file: &[u8], j: u16, s: u16) -> i32
     match kind_of(file) {
         FACTORS => factor_gain(file, j, s),
         SERIES => series_shock_at(file, j, s),
-        _ => if s == j + 1 { payoff_field(file) as i32 } else { 0 },
+        _ => if s == j + 1 {
+            payoff_field(file) as i32
+        } else {
+            0
+        },
     }
 }
 
@@ -174,5 +184,8 @@ pub(crate) fn read_shocks(file: &[u8]) -> Shocks
 {
     let mut cells = [0; 4096];
     write_cells(file, &mut cells);
-    Shocks { scenarios: scenario_count(file) as u8, cells }
+    Shocks {
+        scenarios: scenario_count(file) as u8,
+        cells,
+    }
 }

@@ -9,7 +9,6 @@ ghost use Rattle.inspection.specs.Causes.{accepted, sheet-cause};
 ghost use Rattle.inspection.specs.Kinds.{kind-number};
 ghost use Rattle.sheets.specs.Sheets.{sheet-table, empty-table};
 ghost use Rattle.sheets.specs.Tables.{factor-table, series-table, strike-table, table-of, kind-in, contracts-in, kind-of-sheet, Holds};
-
 use crate::decode::read_index;
 use crate::decode::read_multipliers;
 use crate::decode::read_shocks;

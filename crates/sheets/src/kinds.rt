@@ -1,7 +1,6 @@
 //! The kinds of sheet, as values.
 
 ghost use Prim.Native.Nat.{_≤_};
-
 use crate::index::Index;
 use crate::multipliers::Multipliers;
 use crate::shocks::Shocks;

@@ -8,7 +8,6 @@ ghost use lib.Dec.{ltb};
 ghost use Rattle.sheets.specs.Sheets.{empty-table};
 ghost use Rattle.sheets.specs.Decoded.{record-in, cell-in};
 ghost use Rattle.sheets.specs.Tables.{factor-table, series-table, strike-table, table-of};
-
 use crate::index::Index;
 use crate::kinds::EmptySheet;
 use crate::kinds::FactorSheet;
@@ -121,7 +120,11 @@ pub impl ScenarioModel for StrikeSheet as StrikeModel {
     }
 
     fn scenarios(&self, k: u8) -> u8 {
-        if k == 0 { self.index.count as u8 + 1 } else { 0 }
+        if k == 0 {
+            self.index.count as u8 + 1
+        } else {
+            0
+        }
     }
 
     fn place(&self, contract: u8) -> Option<(u8, u16)> {
@@ -133,7 +136,8 @@ pub impl ScenarioModel for StrikeSheet as StrikeModel {
 
     fn shock(&self, contract: u8, scenario: u8) -> i64 {
         match self.index.record(contract) {
-            Some(j) if u16::from(scenario) == j + 1 && u16::from(scenario) <= self.index.count => self.payoff as i64,
+            Some(j) if u16::from(scenario) == j + 1 && u16::from(scenario) <= self.index.count =>
+                self.payoff as i64,
             _ => 0,
         }
     }

@@ -54,6 +54,7 @@ strikes =
 -- so many of a contract, at a price
 abbrev pub bought : ℕ → ℕ → ℕ → Position
 bought c q p = record { contract = c; quantity = pos q; price = p }
+
 abbrev pub sold : ℕ → ℕ → ℕ → Position
 sold c q p = record { contract = c; quantity = negℤ (pos q); price = p }
 
@@ -63,10 +64,13 @@ even c = 100
 
 abbrev pub trades : List Position
 trades = bought 1 1 100 ∷ bought 2 1 100 ∷ bought 3 1 100 ∷ bought 4 1 100 ∷ []
+
 abbrev pub hedge : List Position
 hedge = bought 1 1 100 ∷ sold 2 1 100 ∷ []
+
 abbrev pub hedge-and-index : List Position
 hedge-and-index = bought 1 1 100 ∷ sold 2 1 100 ∷ bought 3 1 100 ∷ []
+
 abbrev pub struck : List Position
 struck = sold 1 30 100 ∷ bought 1 5 100 ∷ sold 2 20 100 ∷ []
 

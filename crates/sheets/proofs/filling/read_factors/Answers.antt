@@ -8,9 +8,9 @@ pub returns : need.returns
 returns c =
     record {
       means =
-        same-table (c .args .file .now) (record-in (c .read-index .result .records)) (c .read-shocks .result .scenarios) (λ j. getD (c .read-multipliers .result .cells) j 0) (cell-in (c .read-shocks .result .cells))
-        (c .read-index .ensures .records) (c .read-shocks .ensures .scenarios)
-        (λ j l. c .read-multipliers .ensures j l ∙ sym (factor-times (c .args .file .now) (c .pre .factored) j))
-        (c .read-shocks .ensures .cells);
+          same-table (c .args .file .now) (record-in (c .read-index .result .records)) (c .read-shocks .result .scenarios) (λ j. getD (c .read-multipliers .result .cells) j 0) (cell-in (c .read-shocks .result .cells))
+          (c .read-index .ensures .records) (c .read-shocks .ensures .scenarios)
+          (λ j l. c .read-multipliers .ensures j l ∙ sym (factor-times (c .args .file .now) (c .pre .factored) j))
+          (c .read-shocks .ensures .cells);
       counted = c .read-index .ensures .count;
     }

@@ -26,9 +26,9 @@ returns c =
     let w = strike-scenarios _ p k in
     record {
       means =
-        same-table (c .args .file .now) (record-in (c .read-index .result .records)) (c .read-index .result .count + 1) (λ j. 0) (λ j s. cond (eqb s (j + 1)) (pos (c .payoff-field .result)) (pos 0))
-        (c .read-index .ensures .records) (omega arith)
-        (λ j l. sym (other-times (c .args .file .now) (λ e. omega arith) j))
-        (λ j s l m. ap (λ (x : ℕ). cond (eqb s (j + 1)) (pos x) (pos 0)) (c .payoff-field .ensures) ∙ sym (strike-shock (c .args .file .now) p k j s));
+          same-table (c .args .file .now) (record-in (c .read-index .result .records)) (c .read-index .result .count + 1) (λ j. 0) (λ j s. cond (eqb s (j + 1)) (pos (c .payoff-field .result)) (pos 0))
+          (c .read-index .ensures .records) (omega arith)
+          (λ j l. sym (other-times (c .args .file .now) (λ e. omega arith) j))
+          (λ j s l m. ap (λ (x : ℕ). cond (eqb s (j + 1)) (pos x) (pos 0)) (c .payoff-field .ensures) ∙ sym (strike-shock (c .args .file .now) p k j s));
       counted = n;
     }
