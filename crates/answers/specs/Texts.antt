@@ -1,30 +1,42 @@
 -- The console's answers, as text. Assumes nothing.
+use mathlib.Core.Bool.{cond}
 use mathlib.Core.List.{List, [], _++_}
 use Prim.Native.Nat.{ℕ, zero, suc}
 use lib.Chars.{codes}
+use lib.Dec.{eqb}
 use Rattle.std.specs.declared.option.Option.{Option}
 use Rattle.std.specs.declared.option.Option.the-variants.{Some, None}
+use Rattle.std.specs.declared.result.Result.{Result}
+use Rattle.std.specs.declared.result.Result.the-variants.{Ok, Err}
 use Rattle.std.specs.Written.{decimal, signed}
 use Rattle.refusals.specs.declared.Refusal.{Refusal}
 use Rattle.refusals.specs.declared.Refusal.the-variants.{Unknown}
 use Rattle.refusals.specs.Numbers.{number-of, text-of}
-use Rattle.inspection.specs.declared.Kind.{Kind}
-use Rattle.inspection.specs.declared.Kind.the-variants.{Factors, Series, Strikes}
+use Rattle.layout.specs.Fields.{kind, contracts, scenarios}
 use Rattle.scenario.specs.Table.{ScenarioTable}
 
 -- a refusal: its number, and one line for people
 abbrev pub refused-text : Refusal → List ℕ
 refused-text e = codes "refused " ++ (decimal (number-of e) ++ (codes " " ++ text-of e))
 
-abbrev pub kind-name : Kind → List ℕ
-kind-name Factors = codes "factors"
-kind-name Series = codes "series"
-kind-name Strikes = codes "strikes"
+-- the name of a kind of sheet, by its number in a file
+abbrev pub kind-name : ℕ → List ℕ
+kind-name k = cond (eqb k 1) (codes "factors") (cond (eqb k 2) (codes "series") (codes "strikes"))
 
--- a sheet that was read: its place, its kind, and how many contracts and scenarios it has
-abbrev pub sheet-text : ℕ → Kind → ℕ → ℕ → List ℕ
-sheet-text place kind contracts scenarios =
-    codes "sheet " ++ (decimal place ++ (codes " " ++ (kind-name kind ++ (codes " contracts " ++ (decimal contracts ++ (codes " scenarios " ++ decimal scenarios))))))
+-- a sheet that was read from the file b: its place, its kind, and how many contracts and scenarios it has
+abbrev pub sheet-text : ℕ → List ℕ → List ℕ
+sheet-text place b =
+    codes "sheet " ++ (decimal place ++ (codes " " ++ (kind-name (kind b) ++ (codes " contracts " ++ (decimal (contracts b) ++ (codes " scenarios " ++ decimal (scenarios b)))))))
+
+-- a file that finds no place
+abbrev pub misplaced-text : List ℕ
+misplaced-text = codes "misplaced eight sheets are read already"
+
+-- what reading the file b into the set of sheets came to
+abbrev pub added-text : Result (Option ℕ) Refusal → List ℕ → List ℕ
+added-text (Ok (Some place)) b = sheet-text place b
+added-text (Ok None) b = misplaced-text
+added-text (Err e) b = refused-text e
 
 -- a contract's shocks in the first n scenarios, each after a space
 unfoldable pub shocks-text : ScenarioTable → ℕ → ℕ → List ℕ

@@ -3,14 +3,26 @@
 ghost use mathlib.Core.Path.{_≡_};
 ghost use mathlib.Core.List.{_++_};
 ghost use lib.Chars.{codes};
+ghost use Prim.Native.Nat.{ℕ};
+ghost use Rattle.std.specs.declared.option.Option.{Option};
+ghost use Rattle.std.specs.declared.result.Result.{Result};
 ghost use Rattle.std.specs.Of.String.{string-bytes};
 ghost use Rattle.std.specs.Vec.{made};
-ghost use Rattle.std.specs.Written.{decimal, signed};
-ghost use Rattle.answers.specs.Texts.{refused-text, kind-name, sheet-text, shocks-text, heading-text, contract-text};
-use inspection::Kind;
+ghost use Rattle.std.specs.Written.{signed};
+ghost use Rattle.refusals.specs.Numbers.{refusal-of};
+ghost use Rattle.layout.specs.Fields.{kind};
+ghost use Rattle.inspection.specs.Causes.{sheet-cause};
+ghost use Rattle.sheet_set.specs.Places.{Added};
+ghost use Rattle.answers.specs.Texts.{refused-text, kind-name, sheet-text, misplaced-text, added-text, shocks-text, heading-text, contract-text};
+use layout::fields::FACTORS;
+use layout::fields::SERIES;
+use layout::fields::contract_count;
+use layout::fields::kind_of;
+use layout::fields::scenario_count;
 use refusals::Refusal;
 use refusals::RefusalDisplay;
 use scenario::ScenarioModel;
+use sheet_set::sets::SheetSet;
 use std::alloc::AllocError;
 use std::alloc::Global;
 
@@ -23,33 +35,48 @@ pub fn refused_line(heap: Global, refusal: Refusal) -> Result<String, AllocError
     Ok(line)
 }
 
-// The name of a kind of sheet.
-fn name_of(kind: Kind) -> &'static str
-    ensures { λ r. ⌜ now r ≡ kind-name kind ⌝ }
+// The name of the kind of sheet that a file has.
+fn kind_name(file: &[u8]) -> &'static str
+    ensures { λ r. ⌜ now r ≡ kind-name (kind (now (file .entry))) ⌝ }
 {
-    match kind {
-        Kind::Factors => "factors",
-        Kind::Series => "series",
-        Kind::Strikes => "strikes",
+    match kind_of(file) {
+        FACTORS => "factors",
+        SERIES => "series",
+        _ => "strikes",
     }
 }
 
-/// The answer to a sheet that was read: its place and its kind, how many contracts it has, and how many scenarios.
-pub fn sheet_line(
-    heap: Global,
-    place: u8,
-    kind: Kind,
-    contracts: u16,
-    scenarios: u8,
-) -> Result<String, AllocError>
-    ensures { λ r. ⌜ made r (λ s. string-bytes s ≡ sheet-text place kind contracts scenarios) ⌝ }
+// The answer to a file that was read: its place and its kind, how many contracts it has, and how many scenarios.
+fn sheet_line(heap: Global, place: u8, file: &[u8]) -> Result<String, AllocError>
+    ensures { λ r. ⌜ made r (λ s. string-bytes s ≡ sheet-text place (now (file .entry))) ⌝ }
 {
-    let name = name_of(kind);
+    let kind = kind_name(file);
+    let contracts = contract_count(file);
+    let scenarios = scenario_count(file);
     let line = format!(
         heap,
-        "sheet {place} {name} contracts {contracts} scenarios {scenarios}"
+        "sheet {place} {kind} contracts {contracts} scenarios {scenarios}"
     )?;
     Ok(line)
+}
+
+// The answer to a file that finds no place.
+fn misplaced_line(heap: Global) -> Result<String, AllocError>
+    ensures { λ r. ⌜ made r (λ s. string-bytes s ≡ misplaced-text) ⌝ }
+{
+    String::from_str(heap, "misplaced eight sheets are read already")
+}
+
+/// Reads a file into the set of sheets, and tells what that came to: the place that it took, that it found none, or
+/// why it was refused. The set has changed by what is told, and stays as it was unless the file took a place.
+pub fn add_sheet(heap: Global, sheets: &mut SheetSet, file: &[u8]) -> Result<String, AllocError>
+    ensures { λ r. ⌜ ((a : Result (Option ℕ) Refusal) × (refusal-of a ≡ sheet-cause (now (file .entry))) × Added a (now (file .entry)) (now (sheets .entry)) (now (sheets .exit)) × made r (λ s. string-bytes s ≡ added-text a (now (file .entry)))) ⌝ }
+{
+    match sheets.add(file) {
+        Ok(Some(place)) => sheet_line(heap, place, file),
+        Ok(None) => misplaced_line(heap),
+        Err(refusal) => refused_line(heap, refusal),
+    }
 }
 
 // What comes before the shocks of a contract.

@@ -1,16 +1,13 @@
 //! The console: it reads lines from standard input, and answers each at once on standard output.
 
+use answers::add_sheet;
 use answers::contract_line;
-use answers::refused_line;
-use answers::sheet_line;
 use console::Request;
 use console::request_of;
 use scenario::PairModel;
-use scenario::ScenarioModel;
 use sheet_set::sets::SheetSet;
 use sheets::models::SheetModel;
 use std::alloc::AllocError;
-use std::alloc::Global;
 use std::fs;
 use std::io;
 use std::io::BufRead;
@@ -25,9 +22,6 @@ const NO_LINE: &str = "unreadable not a line of this program";
 
 /// The answer to a path at which no file can be read.
 const NO_FILE: &str = "unreadable the file cannot be read";
-
-/// The answer to a file that finds no place.
-const NO_PLACE: &str = "misplaced eight sheets are read already";
 
 /// What a line came to.
 enum Answer {
@@ -44,26 +38,6 @@ fn read_file(rt: &LibcRuntime, path: &str) -> io::Result<Vec<u8>> {
     let mut bytes = Vec::new(rt.alloc());
     fs::open(rt, path)?.take(MOST_READ).read_to_end(&mut bytes)?;
     Ok(bytes)
-}
-
-// The answer to a file that was taken into the set at a place.
-fn placed_line(heap: Global, sheets: &SheetSet, place: Option<u8>) -> Result<String, AllocError> {
-    if let Some(place) = place
-        && let Some(sheet) = sheets.sheet(place)
-        && let Some(kind) = sheet.kind()
-    {
-        sheet_line(heap, place, kind, sheet.contracts(), sheet.scenarios(0))
-    } else {
-        String::from_str(heap, NO_PLACE)
-    }
-}
-
-// The answer to a file that is to be a sheet of the set.
-fn add_sheet(heap: Global, sheets: &mut SheetSet, file: &[u8]) -> Result<String, AllocError> {
-    match sheets.add(file) {
-        Ok(place) => placed_line(heap, sheets, place),
-        Err(refusal) => refused_line(heap, refusal),
-    }
 }
 
 // The answer to a line that names a file.
@@ -106,6 +80,7 @@ fn respond(rt: &LibcRuntime, sheets: &mut SheetSet, line: io::Result<String>) ->
     }
 }
 
+/// Answers every line. If one was unreadable the program ends with status 1.
 fn main(rt: LibcRuntime) -> io::Result<()> {
     let mut sheets = SheetSet::new();
     let mut readable = true;
