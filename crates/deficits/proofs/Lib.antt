@@ -1,3 +1,2 @@
-pub mod Chosen
 pub mod Ranking
 pub mod Summing

@@ -24,9 +24,9 @@ use Rattle.keeper.proofs.Kept.{all-kept, length-kept}
 use Rattle.deficits.specs.declared.Deficit.{Deficit}
 use Rattle.deficits.specs.declared.Picked.{Picked}
 use Rattle.deficits.specs.Ahead.{ahead}
-use Rattle.deficits.specs.Chosen.{None-negative}
+use Rattle.figures.specs.Chosen.{None-negative}
 use Rattle.deficits.specs.Summed.{amounts, most-deficits, most-amount, fair, all-fair, summable, if-summable, picked-of}
-use Rattle.deficits.proofs.Chosen.{total-greatest-most}
+use Rattle.figures.proofs.Chosen.{total-greatest-most}
 
 -- ---- fair amounts
 abbrev pub Fair : Deficit → Type 0

@@ -10,7 +10,7 @@ ghost use Rattle.figures.specs.Sums.{total, total-greatest};
 ghost use Rattle.keeper.specs.Kept.{left-out, Keeping};
 ghost use Rattle.keeper.specs.Greatest.{Greatest, Only-greatest};
 ghost use Rattle.deficits.specs.Ahead.{ahead};
-ghost use Rattle.deficits.specs.Chosen.{Greatest-sum, Moves, Bounds-choices, Reached-by-choice, Moves-with-entry};
+ghost use Rattle.figures.specs.Chosen.{Greatest-sum, Moves, Bounds-choices, Reached-by-choice, Moves-with-entry};
 ghost use Rattle.deficits.specs.Summed.{amounts, most-deficits, most-sum, fair, all-fair, summable, if-summable, picked-of};
 use keeper::Ranked;
 use keeper::keep_greatest;

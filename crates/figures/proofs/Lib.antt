@@ -6,3 +6,4 @@ pub mod Placing
 pub mod Pricing
 pub mod Sizes
 pub mod Summing
+pub mod Chosen

@@ -8,3 +8,4 @@ pub mod Priced
 pub mod Sums
 pub mod Used
 pub mod Worst
+pub mod Chosen

@@ -1,5 +1,5 @@
 use mathlib.Core.Path.{refl}
-use Rattle.deficits.proofs.Chosen.{bounds-choices, reached-by-choice, moves-with-entry}
+use Rattle.figures.proofs.Chosen.{bounds-choices, reached-by-choice, moves-with-entry}
 use Rattle.deficits.proofs.greatest_sums_stand.Needs as need
 
 pub returns : need.returns

@@ -13,7 +13,7 @@ use Rattle.figures.specs.Sums.{total, total-greatest}
 use Rattle.keeper.specs.Kept.{kept}
 use Rattle.deficits.specs.Ahead.{ahead}
 use Rattle.deficits.specs.Summed.{amounts, summable}
-use Rattle.deficits.proofs.Chosen.{greatest-sum}
+use Rattle.figures.proofs.Chosen.{greatest-sum}
 use Rattle.deficits.proofs.Ranking.{kept-total}
 use Rattle.deficits.proofs.Summing.{now-summable, summable-fair, summable-kept, none-negative}
 use Rattle.deficits.proofs.pick_greatest.Needs as need

@@ -8,7 +8,7 @@ use Rattle.std.proofs.shelf.Lists.{length-take}
 use Rattle.std.proofs.shelf.Signed.{toZ-ofZ}
 use Rattle.std.proofs.shelf.Tests.{cond-true}
 use Rattle.deficits.specs.Summed.{amounts, summable}
-use Rattle.deficits.proofs.Chosen.{greatest-sum, greatest-moves-by}
+use Rattle.figures.proofs.Chosen.{greatest-sum, greatest-moves-by}
 use Rattle.deficits.proofs.Summing.{picked-sum, summable-fair, none-negative}
 use Rattle.deficits.proofs.sum_of_greatest.Needs as need
 

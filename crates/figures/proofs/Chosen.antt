@@ -14,8 +14,8 @@ use Rattle.std.proofs.shelf.Elements.{all-set}
 use Rattle.std.proofs.shelf.Lists.{length-set, length-take, map-set, set-getD, take-all, take-map}
 use Rattle.std.proofs.shelf.Signed.{ints, clamps}
 use Rattle.std.proofs.shelf.Tests.{cases-lt}
 use Rattle.figures.specs.Sums.{total, placed-in, descending, total-greatest}
-use Rattle.deficits.specs.Chosen.{chosen, picks, Reached, Greatest-sum, None-negative, raised, Moves, Bounds-choices, Reached-by-choice, Moves-with-entry}
+use Rattle.figures.specs.Chosen.{chosen, picks, Reached, Greatest-sum, None-negative, raised, Moves, Bounds-choices, Reached-by-choice, Moves-with-entry}
 
 -- ---- the same sum, where each place is taken or left; amounts below 0 are left
 

@@ -1,0 +1,12 @@
+pub mod Answers
+pub mod Bounds
+pub mod Causes
+pub mod Days
+pub mod Law
+pub mod Ledger
+pub mod Limits
+pub mod Lively
+pub mod Runs
+pub mod SmallDay
+pub mod Sound
+pub mod Words
