@@ -14,7 +14,6 @@ ghost use Rattle.sheets.specs.Sheets.{empty-table};
 ghost use Rattle.sheets.specs.Tables.{table-of, Holds};
 ghost use Rattle.tables.specs.Steps.{step-of};
 ghost use Rattle.tables.specs.Taken.{taken, ticks-after, positions-after};
-
 use crate::steps::Step;
 use figures::position::Position;
 use figures::prices::Prices;
@@ -36,7 +35,7 @@ pub struct Example {
 
 impl Example {
     /// The empty sheet, with no prices and no positions.
-    pub fn new(heap: Global) -> Example
+    pub(crate) fn new(heap: Global) -> Example
         ensures sheet { λ r. ⌜ table-of (r .sheet) ≡ empty-table ⌝ }
         ensures prices { λ r. ⌜ r .prices .ticks ≡ replicate 256 None ⌝ }
         ensures positions { λ r. ⌜ vec-items (r .positions) ≡ [] ⌝ }
@@ -59,7 +58,7 @@ impl Example {
     }
 
     /// Takes over the sheet of a file, with no prices and no positions, or refuses the file and stays as it was.
-    pub fn read(&mut self, file: &[u8]) -> Result<(), Refusal>
+    pub(crate) fn read(&mut self, file: &[u8]) -> Result<(), Refusal>
         ensures answer { λ r. ⌜ refusal-of r ≡ sheet-cause (now (file .entry)) ⌝ }
         ensures holds { λ r. ⌜ Cases r (λ _. Holds (now (self .exit) .sheet) (now (file .entry))) (λ _. now (self .exit) ≡ now (self .entry)) ⌝ }
         ensures blank { λ r. ⌜ made r (λ _. (now (self .exit) .prices .ticks ≡ replicate 256 None) × (vec-items (now (self .exit) .positions) ≡ [])) ⌝ }
@@ -70,7 +69,7 @@ impl Example {
     }
 
     /// Takes over what a row says, and tells whether it could: a price has to be 1 to 100,000.
-    pub fn take(&mut self, step: Step) -> Result<bool, AllocError>
+    pub(crate) fn take(&mut self, step: Step) -> Result<bool, AllocError>
         ensures said { λ r. ⌜ made r (λ b. b ≡ taken (step-of step)) ⌝ }
         ensures sheet { λ _. ⌜ now (self .exit) .sheet ≡ now (self .entry) .sheet ⌝ }
         ensures prices { λ _. ⌜ now (self .exit) .prices .ticks ≡ ticks-after (step-of step) (now (self .entry) .prices .ticks) ⌝ }

@@ -9,7 +9,6 @@ ghost use Rattle.figures.specs.Markets.{market, has-price, answerable, figure-i
 ghost use Rattle.figures.specs.Positions.{position-of, positions-of};
 ghost use Rattle.figures.specs.Sums.{floored};
 ghost use Rattle.tables.specs.Losses.{loses-in};
-
 use figures::bounds::MOST_POSITIONS;
 use figures::marks::value;
 use figures::position::Position;
@@ -37,7 +36,13 @@ fn lies_in<M: ScenarioModel>(model: &M, position: &Position, k: u8) -> bool
 
 // What a position loses in a scenario of subportfolio `k`, 0 where it gains or lies elsewhere. `None` where its contract
 // has no market price.
-fn loss_of<M: ScenarioModel>(model: &M, prices: &Prices, position: &Position, k: u8, scenario: u8) -> Option<i64>
+fn loss_of<M: ScenarioModel>(
+    model: &M,
+    prices: &Prices,
+    position: &Position,
+    k: u8,
+    scenario: u8,
+) -> Option<i64>
     ensures value { λ r. ⌜ r ≡ figure-if (has-price (now (prices .entry)) (now (position .entry) .contract)) (loses-in (M·ScenarioModel .table (now (model .entry))) (market (now (prices .entry))) k scenario (position-of (now (position .entry)))) ⌝ }
     ensures small { λ r. ⌜ BySome r (Unit {0}) (λ x. natAbs x ≤ 11000000000000) ⌝ }
 {
@@ -50,7 +55,13 @@ fn loss_of<M: ScenarioModel>(model: &M, prices: &Prices, position: &Position, k:
 
 /// What the losing ones of some positions lose in a scenario of subportfolio `k`, with no help from the gaining ones.
 /// `None` where there are more than 1,024 positions, or one of them has no market price.
-pub fn loss_in<M: ScenarioModel>(model: &M, prices: &Prices, positions: &[Position], k: u8, scenario: u8) -> Option<i64>
+pub(crate) fn loss_in<M: ScenarioModel>(
+    model: &M,
+    prices: &Prices,
+    positions: &[Position],
+    k: u8,
+    scenario: u8,
+) -> Option<i64>
     ensures { λ r. ⌜ r ≡ figure-if (answerable (now (prices .entry)) (positions-of (now (positions .entry)))) (losers-in (M·ScenarioModel .table (now (model .entry))) (market (now (prices .entry))) (positions-of (now (positions .entry))) k scenario) ⌝ }
 {
     if positions.len() > MOST_POSITIONS {

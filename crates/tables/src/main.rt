@@ -39,7 +39,12 @@ fn figure(example: &Example, word: &str, numbers: &[i64]) -> Option<Figure> {
 }
 
 // Prints a figure beside what it should be, and tells whether they agree.
-fn compare(rt: &LibcRuntime, question: &str, figure: Option<Figure>, expected: Option<Figure>) -> io::Result<bool> {
+fn compare(
+    rt: &LibcRuntime,
+    question: &str,
+    figure: Option<Figure>,
+    expected: Option<Figure>,
+) -> io::Result<bool> {
     let Some(figure) = figure else {
         return fault(rt, question);
     };
@@ -72,7 +77,12 @@ fn answer(rt: &LibcRuntime, example: &Example, question: &str, expected: &str) -
         return fault(rt, question);
     };
     match all_signed(rt.alloc(), rest)? {
-        Some(numbers) => compare(rt, question.trim(), figure(example, word, numbers.as_slice()), figure_in(expected)),
+        Some(numbers) => compare(
+            rt,
+            question.trim(),
+            figure(example, word, numbers.as_slice()),
+            figure_in(expected),
+        ),
         None => fault(rt, question),
     }
 }

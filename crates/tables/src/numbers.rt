@@ -6,7 +6,6 @@ ghost use Rattle.std.specs.Options.{mapped};
 ghost use Rattle.std.specs.Vec.{made};
 ghost use Rattle.console.specs.Words.{words};
 ghost use Rattle.tables.specs.Numbers.{whole-in, signed-in, all-signed, below};
-
 use console::next_word;
 use console::number;
 use std::alloc::AllocError;
@@ -24,7 +23,7 @@ fn whole(digits: &str) -> Option<i64>
 
 /// The number that a word writes: decimal digits, with `-` before them for a number below 0. `None` for another word, and
 /// for a number beyond `i64::MAX` either way.
-pub fn signed(word: &str) -> Option<i64>
+pub(crate) fn signed(word: &str) -> Option<i64>
     ensures { λ r. ⌜ r ≡ signed-in (now (word .entry)) ⌝ }
 {
     match word.strip_prefix('-') {
@@ -37,7 +36,7 @@ pub fn signed(word: &str) -> Option<i64>
 }
 
 /// The numbers that the words of a text write. `None` where one of them writes none.
-pub fn all_signed(heap: Global, text: &str) -> Result<Option<Vec<i64>>, AllocError>
+pub(crate) fn all_signed(heap: Global, text: &str) -> Result<Option<Vec<i64>>, AllocError>
     ensures { λ r. ⌜ made r (λ o. mapped vec-items o ≡ all-signed (words (now (text .entry)))) ⌝ }
 {
     let mut numbers = Vec::new(heap);
@@ -53,7 +52,7 @@ pub fn all_signed(heap: Global, text: &str) -> Result<Option<Vec<i64>>, AllocErr
 }
 
 /// A number of 0 to 255.
-pub fn byte(number: i64) -> Option<u8>
+pub(crate) fn byte(number: i64) -> Option<u8>
     ensures { λ r. ⌜ r ≡ below 256 number ⌝ }
 {
     u8::try_from(number).ok()

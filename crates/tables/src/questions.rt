@@ -3,7 +3,6 @@
 ghost use mathlib.Core.Path.{_≡_};
 ghost use Rattle.std.specs.Options.{mapped};
 ghost use Rattle.tables.specs.Questions.{two-bytes, question-of, of-positions, of-two, of-list, asked};
-
 use crate::numbers::byte;
 
 /// The figure that a row asks for.
@@ -79,7 +78,7 @@ fn question_of_list(numbers: &[i64]) -> Option<Question<'_>>
 }
 
 /// The question that a word asks with numbers.
-pub fn question_in<'a>(word: &str, numbers: &'a [i64]) -> Option<Question<'a>>
+pub(crate) fn question_in<'a>(word: &str, numbers: &'a [i64]) -> Option<Question<'a>>
     ensures { λ r. ⌜ mapped question-of r ≡ asked (now (word .entry)) (now (numbers .entry)) ⌝ }
 {
     if word == "greatest" {

@@ -4,7 +4,6 @@ ghost use mathlib.Core.Path.{_≡_};
 ghost use Rattle.std.specs.Options.{mapped};
 ghost use Rattle.figures.specs.Positions.{meant};
 ghost use Rattle.tables.specs.Steps.{step-of, quantity-in, position-in, clear-in, price-in, traded-in, trade-of, stepped};
-
 use crate::numbers::byte;
 use figures::position::Position;
 
@@ -87,7 +86,7 @@ fn trade(word: &str, contract: i64, count: i64, price: i64) -> Option<Step>
 }
 
 /// The step that a word says with numbers.
-pub fn step_in(word: &str, numbers: &[i64]) -> Option<Step>
+pub(crate) fn step_in(word: &str, numbers: &[i64]) -> Option<Step>
     ensures { λ r. ⌜ mapped step-of r ≡ stepped (now (word .entry)) (now (numbers .entry)) ⌝ }
 {
     match numbers {

@@ -8,7 +8,6 @@ ghost use Rattle.figures.specs.Used.{utilisation-if};
 ghost use Rattle.sheets.specs.Tables.{table-of};
 ghost use Rattle.tables.specs.Questions.{question-of};
 ghost use Rattle.tables.specs.Workings.{number-if, word-figure, figure-in, utilisation-figure, only-mark, figure-for};
-
 use crate::examples::Example;
 use crate::greatest::greatest_of;
 use crate::losses::loss_in;
@@ -88,7 +87,7 @@ fn figure_of_word(word: &str) -> Option<Figure>
 }
 
 /// The figure that stands in a text: a number, or the word `none`.
-pub fn figure_in(text: &str) -> Option<Figure>
+pub(crate) fn figure_in(text: &str) -> Option<Figure>
     ensures { λ r. ⌜ r ≡ figure-in (only (words (now (text .entry)))) ⌝ }
 {
     match only_word(text) {
@@ -98,14 +97,22 @@ pub fn figure_in(text: &str) -> Option<Figure>
 }
 
 /// The figure that a question asks for, `None` where it cannot be worked out.
-pub fn figure_for(example: &Example, question: Question<'_>) -> Option<Figure>
+pub(crate) fn figure_for(example: &Example, question: Question<'_>) -> Option<Figure>
     ensures { λ r. ⌜ r ≡ figure-for (table-of (now (example .entry) .sheet)) (now (example .entry) .prices) (positions-of (vec-items (now (example .entry) .positions))) (question-of (question .entry)) ⌝ }
 {
     let positions = example.positions.as_slice();
     match question {
-        Question::Shock(contract, scenario) => number(Some(example.sheet.shock(contract, scenario))),
+        Question::Shock(contract, scenario) => number(Some(
+            example.sheet.shock(contract, scenario),
+        )),
         Question::Mark => number(only_mark(&example.sheet, &example.prices, positions)),
-        Question::Loss(k, scenario) => number(loss_in(&example.sheet, &example.prices, positions, k, scenario)),
+        Question::Loss(k, scenario) => number(loss_in(
+            &example.sheet,
+            &example.prices,
+            positions,
+            k,
+            scenario,
+        )),
         Question::Risk => number(open_risk(&example.sheet, &example.prices, positions)),
         Question::Need => number(need(&example.sheet, &example.prices, positions, 0)),
         Question::Deficit(needed, collateral) => number(deficit(needed, collateral)),
