@@ -1,11 +1,14 @@
 -- What a word says, by how many numbers follow it. Assumes nothing.
-use mathlib.Core.Path.{_≡_, refl, sym}
-use mathlib.Core.List.{List, [], _∷_}
+use mathlib.Core.Path.{_≡_, refl, ap, _∙_}
+use mathlib.Core.List.{List, [], _∷_, _++_}
 use Prim.Native.Nat.{ℕ}
 use native.Mathlib.Omega.{arith}
 use lib.IntN.{ℤ, pos}
 use lib.ListN.{length, getD}
 use Rattle.std.specs.declared.option.Option.the-variants.{None}
+use Rattle.std.proofs.shelf.Lists.{map-append}
+use Rattle.figures.specs.declared.position.Position.{Position as Kept}
+use Rattle.figures.specs.Positions.{position-of, positions-of}
 use Rattle.tables.specs.Steps.{clear-in, price-in, trade-in, stepped}
 
 module _ (w : List ℕ) where
@@ -32,3 +35,7 @@ module _ (w : List ℕ) where
   with-others (x ∷ y ∷ []) k l m = absurd (l refl)
   with-others (x ∷ y ∷ z ∷ []) k l m = absurd (m refl)
   with-others (x ∷ y ∷ z ∷ u ∷ xs) k l m = refl
+
+-- one position more
+pub one-more : (before after : List Kept) (p : Kept) → after ≡ before ++ p ∷ [] → positions-of after ≡ positions-of before ++ position-of p ∷ []
+one-more before after p e = ap positions-of e ∙ map-append position-of before (p ∷ [])

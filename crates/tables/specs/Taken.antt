@@ -1,5 +1,5 @@
 -- What becomes of prices and positions as rows are taken over. Assumes nothing.
-use mathlib.Core.Bool.{Bool, true, cond}
+use mathlib.Core.Bool.{Bool, true, false, cond}
 use mathlib.Core.List.{List, [], _∷_, _++_}
 use Prim.Native.Nat.{ℕ}
 use lib.ListN.{replicate, set}
@@ -24,3 +24,16 @@ abbrev pub positions-after : Step → List Position → List Position
 positions-after clear ts = []
 positions-after (price c t) ts = ts
 positions-after (trade p) ts = ts ++ p ∷ []
+
+-- the same of a row that says a step, or none
+abbrev pub taken-if : Option Step → Bool
+taken-if None = false
+taken-if (Some s) = taken s
+
+abbrev pub ticks-after-if : Option Step → List (Option ℕ) → List (Option ℕ)
+ticks-after-if None ps = ps
+ticks-after-if (Some s) ps = ticks-after s ps
+
+abbrev pub positions-after-if : Option Step → List Position → List Position
+positions-after-if None ts = ts
+positions-after-if (Some s) ts = positions-after s ts

@@ -43,18 +43,22 @@ utilisation-figure None = None
 utilisation-figure (Some (percent p)) = percent-if p
 utilisation-figure (Some no-backing) = Some NoBacking
 
--- the mark of the one position
-abbrev pub only-mark : ScenarioTable → Prices → List Position → Option ℤ
-only-mark m ps [] = None
-only-mark m ps (t ∷ []) = figure-if (is-priced ps t) (figures.mark m (market ps) t)
-only-mark m ps (t ∷ u ∷ ts) = None
+-- the mark of the last position
+abbrev pub last-mark : ScenarioTable → Prices → List Position → Option ℤ
+last-mark m ps [] = None
+last-mark m ps (t ∷ []) = figure-if (is-priced ps t) (figures.mark m (market ps) t)
+last-mark m ps (t ∷ u ∷ ts) = last-mark m ps (u ∷ ts)
 
 abbrev pub figure-for : ScenarioTable → Prices → List Position → Question → Option Figure
 figure-for m ps ts (shock c s) = Some (Number (m .shock c s))
-figure-for m ps ts mark = number-if (only-mark m ps ts)
+figure-for m ps ts mark = number-if (last-mark m ps ts)
 figure-for m ps ts (loss k s) = number-if (figure-if (answerable ps ts) (figures.losers-in m (market ps) ts k s))
 figure-for m ps ts risk = number-if (figure-if (answerable ps ts) (figures.open-risk m (market ps) ts))
 figure-for m ps ts need = number-if (figure-if (answerable ps ts && fair-cash (pos 0)) (figures.need m (market ps) ts (pos 0)))
 figure-for m ps ts (deficit n c) = number-if (figure-if (leZ (pos 0) c) (figures.deficit n c))
 figure-for m ps ts (greatest n xs) = number-if (greatest-if n xs)
 figure-for m ps ts (utilisation r b) = utilisation-figure (utilisation-if b r)
+
+abbrev pub figure-if-asked : ScenarioTable → Prices → List Position → Option Question → Option Figure
+figure-if-asked m ps ts None = None
+figure-if-asked m ps ts (Some q) = figure-for m ps ts q

@@ -12,9 +12,10 @@ ghost use Rattle.figures.specs.Positions.{positions-of};
 ghost use Rattle.inspection.specs.Causes.{sheet-cause};
 ghost use Rattle.sheets.specs.Sheets.{empty-table};
 ghost use Rattle.sheets.specs.Tables.{table-of, Holds};
-ghost use Rattle.tables.specs.Steps.{step-of};
-ghost use Rattle.tables.specs.Taken.{taken, ticks-after, positions-after};
+ghost use Rattle.tables.specs.Steps.{step-of, stepped};
+ghost use Rattle.tables.specs.Taken.{taken, ticks-after, positions-after, taken-if, ticks-after-if, positions-after-if};
 use crate::steps::Step;
+use crate::steps::step_in;
 use figures::position::Position;
 use figures::prices::Prices;
 use refusals::Refusal;
@@ -25,12 +26,9 @@ use std::alloc::Global;
 /// A sheet, market prices and positions.
 #[derive(Drop)]
 pub struct Example {
-    /// Has the scenarios.
-    pub sheet: Sheet,
-    /// Of the contracts that have one.
-    pub prices: Prices,
-    /// In the order in which they were traded.
-    pub positions: Vec<Position>,
+    pub(crate) sheet: Sheet,
+    pub(crate) prices: Prices,
+    pub(crate) positions: Vec<Position>,
 }
 
 impl Example {
@@ -63,17 +61,21 @@ impl Example {
         ensures holds { λ r. ⌜ Cases r (λ _. Holds (now (self .exit) .sheet) (now (file .entry))) (λ _. now (self .exit) ≡ now (self .entry)) ⌝ }
         ensures blank { λ r. ⌜ made r (λ _. (now (self .exit) .prices .ticks ≡ replicate 256 None) × (vec-items (now (self .exit) .positions) ≡ [])) ⌝ }
     {
-        self.sheet.fill(file)?;
-        self.clear();
-        Ok(())
+        match self.sheet.fill(file) {
+            Ok(()) => {
+                self.clear();
+                Ok(())
+            }
+            Err(refusal) => Err(refusal),
+        }
     }
 
-    /// Takes over what a row says, and tells whether it could: a price has to be 1 to 100,000.
-    pub(crate) fn take(&mut self, step: Step) -> Result<bool, AllocError>
+    // Takes over a step, and tells whether it could.
+    fn take_step(&mut self, step: Step) -> Result<bool, AllocError>
         ensures said { λ r. ⌜ made r (λ b. b ≡ taken (step-of step)) ⌝ }
         ensures sheet { λ _. ⌜ now (self .exit) .sheet ≡ now (self .entry) .sheet ⌝ }
         ensures prices { λ _. ⌜ now (self .exit) .prices .ticks ≡ ticks-after (step-of step) (now (self .entry) .prices .ticks) ⌝ }
-        ensures positions { λ r. ⌜ made r (λ _. positions-of (vec-items (now (self .exit) .positions)) ≡ positions-after (step-of step) (positions-of (vec-items (now (self .entry) .positions)))) ⌝ }
+        ensures positions { λ r. ⌜ Cases r (λ _. positions-of (vec-items (now (self .exit) .positions)) ≡ positions-after (step-of step) (positions-of (vec-items (now (self .entry) .positions)))) (λ _. vec-items (now (self .exit) .positions) ≡ vec-items (now (self .entry) .positions)) ⌝ }
     {
         match step {
             Step::Clear => {
@@ -85,6 +87,20 @@ impl Example {
                 self.positions.push(position)?;
                 Ok(true)
             }
+        }
+    }
+
+    /// Takes over what a word says with numbers, and tells whether it could. Where it could not, or there is no memory for one
+    /// more position, nothing has changed.
+    pub(crate) fn take(&mut self, word: &str, numbers: &[i64]) -> Result<bool, AllocError>
+        ensures said { λ r. ⌜ made r (λ b. b ≡ taken-if (stepped (now (word .entry)) (now (numbers .entry)))) ⌝ }
+        ensures sheet { λ _. ⌜ now (self .exit) .sheet ≡ now (self .entry) .sheet ⌝ }
+        ensures prices { λ _. ⌜ now (self .exit) .prices .ticks ≡ ticks-after-if (stepped (now (word .entry)) (now (numbers .entry))) (now (self .entry) .prices .ticks) ⌝ }
+        ensures positions { λ r. ⌜ Cases r (λ _. positions-of (vec-items (now (self .exit) .positions)) ≡ positions-after-if (stepped (now (word .entry)) (now (numbers .entry))) (positions-of (vec-items (now (self .entry) .positions)))) (λ _. vec-items (now (self .exit) .positions) ≡ vec-items (now (self .entry) .positions)) ⌝ }
+    {
+        match step_in(word, numbers) {
+            Some(step) => self.take_step(step),
+            None => Ok(false),
         }
     }
 }

@@ -13,119 +13,123 @@ use console::next_word;
 use console::only_word;
 use examples::Example;
 use numbers::all_signed;
-use questions::question_in;
-use std::alloc::AllocError;
 use std::fs;
 use std::io;
-use steps::step_in;
 use workings::Figure;
 use workings::FigureDisplay;
 use workings::FigurePartialEq;
-use workings::figure_for;
 use workings::figure_in;
 
-// Says that a row cannot be read or worked out.
-fn fault(rt: &LibcRuntime, row: &str) -> io::Result<bool> {
-    println!(rt, "cannot be worked out: {row}")?;
-    Ok(false)
+/// What became of a row.
+enum Outcome {
+    /// It was taken over, or its figure is as expected.
+    Well,
+    /// Its figure is not as expected.
+    Different,
+    /// It cannot be read, or its figure cannot be worked out.
+    Faulty,
 }
 
-// The figure that a word asks for with numbers.
-fn figure(example: &Example, word: &str, numbers: &[i64]) -> Option<Figure> {
-    match question_in(word, numbers) {
-        Some(question) => figure_for(example, question),
-        None => None,
-    }
+// A row that was taken over, or could not be.
+fn taken(well: bool) -> Outcome {
+    if well { Outcome::Well } else { Outcome::Faulty }
 }
 
-// Prints a figure beside what it should be, and tells whether they agree.
+// Prints a figure beside what it should be.
 fn compare(
     rt: &LibcRuntime,
     question: &str,
-    figure: Option<Figure>,
-    expected: Option<Figure>,
-) -> io::Result<bool> {
-    let Some(figure) = figure else {
-        return fault(rt, question);
-    };
-    let Some(expected) = expected else {
-        return fault(rt, question);
-    };
+    figure: Figure,
+    expected: Figure,
+) -> io::Result<Outcome> {
     println!(rt, "{question}: worked out {figure}, should be {expected}")?;
-    Ok(figure == expected)
-}
-
-// Takes over what a word says with numbers, and tells whether it could.
-fn take(example: &mut Example, word: &str, numbers: &[i64]) -> Result<bool, AllocError> {
-    match step_in(word, numbers) {
-        Some(step) => example.take(step),
-        None => Ok(false),
+    if figure == expected {
+        Ok(Outcome::Well)
+    } else {
+        Ok(Outcome::Different)
     }
 }
 
-// Reads the sheet at a path, and tells whether it was taken over.
-fn read_sheet(rt: &LibcRuntime, example: &mut Example, rest: &str) -> io::Result<bool> {
-    match only_word(rest) {
-        Some(path) => Ok(example.read(fs::read(rt, path)?.as_slice()).is_ok()),
-        None => Ok(false),
-    }
-}
-
-// Answers a row that asks for a figure, and tells whether it is as expected.
-fn answer(rt: &LibcRuntime, example: &Example, question: &str, expected: &str) -> io::Result<bool> {
+// Answers a row that asks for a figure.
+fn answer(
+    rt: &LibcRuntime,
+    example: &Example,
+    question: &str,
+    expected: &str,
+) -> io::Result<Outcome> {
     let Some((word, rest)) = next_word(question) else {
-        return fault(rt, question);
+        return Ok(Outcome::Faulty);
     };
-    match all_signed(rt.alloc(), rest)? {
-        Some(numbers) => compare(
-            rt,
-            question.trim(),
-            figure(example, word, numbers.as_slice()),
-            figure_in(expected),
-        ),
-        None => fault(rt, question),
+    let Some(numbers) = all_signed(rt.alloc(), rest)? else {
+        return Ok(Outcome::Faulty);
+    };
+    match (
+        example.figure(word, numbers.as_slice()),
+        figure_in(expected),
+    ) {
+        (Some(figure), Some(expected)) => compare(rt, question.trim(), figure, expected),
+        _ => Ok(Outcome::Faulty),
     }
 }
 
-// Takes over a row that asks for no figure, and tells whether it could.
-fn prepare(rt: &LibcRuntime, example: &mut Example, row: &str) -> io::Result<bool> {
+// Takes over the sheet at a path.
+fn read_sheet(rt: &LibcRuntime, example: &mut Example, path: &str) -> Outcome {
+    match fs::read(rt, path) {
+        Ok(file) => taken(example.read(file.as_slice()).is_ok()),
+        Err(_) => Outcome::Faulty,
+    }
+}
+
+// Takes over what a word says with the words that follow it.
+fn prepare(rt: &LibcRuntime, example: &mut Example, word: &str, rest: &str) -> io::Result<Outcome> {
+    if word == "sheet"
+        && let Some(path) = only_word(rest)
+    {
+        return Ok(read_sheet(rt, example, path));
+    }
+    match all_signed(rt.alloc(), rest)? {
+        Some(numbers) => Ok(taken(example.take(word, numbers.as_slice())?)),
+        None => Ok(Outcome::Faulty),
+    }
+}
+
+// Answers a row. One that is blank, or that begins with `#`, is passed over.
+fn respond(rt: &LibcRuntime, example: &mut Example, row: &str) -> io::Result<Outcome> {
     let Some((word, rest)) = next_word(row) else {
-        return Ok(true);
+        return Ok(Outcome::Well);
     };
-    match word {
-        "table" => {
-            rt.println(rest.trim())?;
-            Ok(true)
-        }
-        "sheet" => read_sheet(rt, example, rest),
-        _ => match all_signed(rt.alloc(), rest)? {
-            Some(numbers) => Ok(take(example, word, numbers.as_slice())?),
-            None => Ok(false),
-        },
+    if row.starts_with('#') {
+        return Ok(Outcome::Well);
+    }
+    if word == "table" {
+        rt.println(rest.trim())?;
+        return Ok(Outcome::Well);
+    }
+    match row.split_once('=') {
+        Some((question, expected)) => answer(rt, example, question, expected),
+        None => prepare(rt, example, word, rest),
     }
 }
 
 // Answers a row, and tells whether all is well with it.
-fn respond(rt: &LibcRuntime, example: &mut Example, row: &str) -> io::Result<bool> {
-    if row.starts_with('#') {
-        return Ok(true);
-    }
-    if let Some((question, expected)) = row.split_once('=') {
-        return answer(rt, example, question, expected);
-    }
-    if prepare(rt, example, row)? {
-        Ok(true)
-    } else {
-        fault(rt, row)
+fn report(rt: &LibcRuntime, example: &mut Example, row: &str) -> io::Result<bool> {
+    match respond(rt, example, row)? {
+        Outcome::Well => Ok(true),
+        Outcome::Different => Ok(false),
+        Outcome::Faulty => {
+            println!(rt, "cannot be worked out: {row}")?;
+            Ok(false)
+        }
     }
 }
 
+/// Answers every row. Unless all is well with each, the program ends with status 1.
 fn main(rt: LibcRuntime) -> io::Result<()> {
     let rows = io::read_to_string(rt.alloc(), rt.stdin())?;
     let mut example = Example::new(rt.alloc());
     let mut well = true;
     for row in rows.lines() {
-        if !respond(&rt, &mut example, row)? {
+        if !report(&rt, &mut example, row)? {
             well = false;
         }
     }

@@ -7,10 +7,10 @@ use crate::numbers::byte;
 
 /// The figure that a row asks for.
 #[derive(Clone, Copy)]
-pub enum Question<'a> {
+pub(crate) enum Question<'a> {
     /// The shock of a contract in a scenario.
     Shock(u8, u8),
-    /// The mark of the one position.
+    /// The mark of the last position.
     Mark,
     /// What the losing positions lose in a subportfolio, in one of its scenarios.
     Loss(u8, u8),

@@ -9,7 +9,7 @@ use figures::position::Position;
 
 /// What a row says of the prices and the positions.
 #[derive(Clone, Copy)]
-pub enum Step {
+pub(crate) enum Step {
     /// There are none any more.
     Clear,
     /// A contract has a market price, in ticks.

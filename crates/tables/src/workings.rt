@@ -6,13 +6,14 @@ ghost use Rattle.console.specs.Words.{words, only};
 ghost use Rattle.figures.specs.Positions.{positions-of};
 ghost use Rattle.figures.specs.Used.{utilisation-if};
 ghost use Rattle.sheets.specs.Tables.{table-of};
-ghost use Rattle.tables.specs.Questions.{question-of};
-ghost use Rattle.tables.specs.Workings.{number-if, word-figure, figure-in, utilisation-figure, only-mark, figure-for};
+ghost use Rattle.tables.specs.Questions.{question-of, asked};
+ghost use Rattle.tables.specs.Workings.{number-if, word-figure, figure-in, utilisation-figure, last-mark, figure-for, figure-if-asked};
 use crate::examples::Example;
 use crate::greatest::greatest_of;
 use crate::losses::loss_in;
 use crate::numbers::signed;
 use crate::questions::Question;
+use crate::questions::question_in;
 use console::only_word;
 use figures::marks::mark;
 use figures::needs::deficit;
@@ -65,14 +66,13 @@ fn utilisation(risk: i64, backing: i64) -> Option<Figure>
     }
 }
 
-// The mark of the one position. `None` where there is none, or more than one.
-fn only_mark(sheet: &Sheet, prices: &Prices, positions: &[Position]) -> Option<i64>
-    ensures { λ r. ⌜ r ≡ only-mark (table-of (now (sheet .entry))) (now (prices .entry)) (positions-of (now (positions .entry))) ⌝ }
+// The mark of the last position. `None` where there is none, or its contract has no market price.
+fn last_mark(sheet: &Sheet, prices: &Prices, positions: &[Position]) -> Option<i64>
+    ensures { λ r. ⌜ r ≡ last-mark (table-of (now (sheet .entry))) (now (prices .entry)) (positions-of (now (positions .entry))) ⌝ }
 {
-    if positions.len() == 1 {
-        mark(sheet, prices, &positions[0])
-    } else {
-        None
+    match positions.last() {
+        Some(position) => mark(sheet, prices, position),
+        None => None,
     }
 }
 
@@ -96,27 +96,39 @@ pub(crate) fn figure_in(text: &str) -> Option<Figure>
     }
 }
 
-/// The figure that a question asks for, `None` where it cannot be worked out.
-pub(crate) fn figure_for(example: &Example, question: Question<'_>) -> Option<Figure>
-    ensures { λ r. ⌜ r ≡ figure-for (table-of (now (example .entry) .sheet)) (now (example .entry) .prices) (positions-of (vec-items (now (example .entry) .positions))) (question-of (question .entry)) ⌝ }
-{
-    let positions = example.positions.as_slice();
-    match question {
-        Question::Shock(contract, scenario) => number(Some(
-            example.sheet.shock(contract, scenario),
-        )),
-        Question::Mark => number(only_mark(&example.sheet, &example.prices, positions)),
-        Question::Loss(k, scenario) => number(loss_in(
-            &example.sheet,
-            &example.prices,
-            positions,
-            k,
-            scenario,
-        )),
-        Question::Risk => number(open_risk(&example.sheet, &example.prices, positions)),
-        Question::Need => number(need(&example.sheet, &example.prices, positions, 0)),
-        Question::Deficit(needed, collateral) => number(deficit(needed, collateral)),
-        Question::Greatest(count, deficits) => number(greatest_of(deficits, count)),
-        Question::Utilisation(risk, backing) => utilisation(risk, backing),
+impl Example {
+    // The figure that a question asks for.
+    fn figure_for(&self, question: Question<'_>) -> Option<Figure>
+        ensures { λ r. ⌜ r ≡ figure-for (table-of (now (self .entry) .sheet)) (now (self .entry) .prices) (positions-of (vec-items (now (self .entry) .positions))) (question-of (question .entry)) ⌝ }
+    {
+        let positions = self.positions.as_slice();
+        match question {
+            Question::Shock(contract, scenario) => number(Some(
+                self.sheet.shock(contract, scenario),
+            )),
+            Question::Mark => number(last_mark(&self.sheet, &self.prices, positions)),
+            Question::Loss(k, scenario) => number(loss_in(
+                &self.sheet,
+                &self.prices,
+                positions,
+                k,
+                scenario,
+            )),
+            Question::Risk => number(open_risk(&self.sheet, &self.prices, positions)),
+            Question::Need => number(need(&self.sheet, &self.prices, positions, 0)),
+            Question::Deficit(needed, collateral) => number(deficit(needed, collateral)),
+            Question::Greatest(count, deficits) => number(greatest_of(deficits, count)),
+            Question::Utilisation(risk, backing) => utilisation(risk, backing),
+        }
+    }
+
+    /// The figure that a word asks for with numbers. `None` where they ask for none, or it cannot be worked out.
+    pub(crate) fn figure(&self, word: &str, numbers: &[i64]) -> Option<Figure>
+        ensures { λ r. ⌜ r ≡ figure-if-asked (table-of (now (self .entry) .sheet)) (now (self .entry) .prices) (positions-of (vec-items (now (self .entry) .positions))) (asked (now (word .entry)) (now (numbers .entry))) ⌝ }
+    {
+        match question_in(word, numbers) {
+            Some(question) => self.figure_for(question),
+            None => None,
+        }
     }
 }

@@ -1,8 +1,9 @@
 use mathlib.Core.Path.{refl, sym, _∙_}
 use Prim.Native.Nat.{_≤_}
 use native.Mathlib.Omega.{arith}
-use Rattle.figures.specs.Markets.{market, is-priced}
-use Rattle.figures.specs.Positions.{position-of}
+use Rattle.figures.specs.Figures.{losers-in}
+use Rattle.figures.specs.Markets.{market, has-price, is-priced, answerable}
+use Rattle.figures.specs.Positions.{position-of, positions-of}
 use Rattle.figures.proofs.Adding.{total-next, total-all}
 use Rattle.figures.proofs.Each.{every-next, every-fails, every-done}
 use Rattle.figures.proofs.Sizes.{added, added-small, added-fits}
@@ -42,10 +43,13 @@ loop-position-again g c =
 
 pub returns-in-Break-sum : need.returns-in-Break-sum
 returns-in-Break-sum g c =
+    let m = g .M·ScenarioModel .table (c .args .model .now) in
     let ps = c .args .prices .now in
     let xs = c .args .positions .now in
-    let unpriced = figure-none _ _ (c .in-Break-sum .ensures tt .value) in
-    c .from-residual .ensures ∙ figure-no _ _ (one-unpriced ps xs (every-fails position-of (is-priced ps) xs (c .loop-position .position-index) (c .position-item .result) (c .loop-position-test .taken) (c .position-item .is) unpriced))
+    let x = c .position-item .result in
+    let unpriced = figure-none (has-price ps (x .contract)) (loses-in m (market ps) (c .args .k) (c .args .scenario) (position-of x)) (c .in-Break-sum .ensures tt .value) in
+    c .from-residual .ensures
+    ∙ figure-no (answerable ps (positions-of xs)) (losers-in m (market ps) (positions-of xs) (c .args .k) (c .args .scenario)) (one-unpriced ps xs (every-fails position-of (is-priced ps) xs (c .loop-position .position-index) x (c .loop-position-test .taken) (c .position-item .is) unpriced))
 
 pub returns : need.returns
 returns g c =
