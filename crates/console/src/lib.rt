@@ -93,30 +93,3 @@ pub fn request_of(line: &str) -> Request<'_>
         request_by_words(line)
     }
 }
-
-#[cfg(test)]
-mod tests {
-    use super::*;
-    use std::test::*;
-
-    #[test]
-    fn lines_that_ask() -> Result<(), Fail> {
-        check(matches!(request_of("sheet a.bin"), Request::Sheet("a.bin")))?;
-        check(matches!(request_of("  contract   0012 "), Request::Contract(12)))?;
-        check(matches!(
-            request_of("contract 18446744073709551616"),
-            Request::Contract(u64::MAX)
-        ))?;
-        check(matches!(request_of("   "), Request::Nothing))?;
-        check(matches!(request_of("# sheet a.bin"), Request::Nothing))
-    }
-
-    #[test]
-    fn lines_that_are_unreadable() -> Result<(), Fail> {
-        check(matches!(request_of("sheet"), Request::Unreadable))?;
-        check(matches!(request_of("sheet a.bin b.bin"), Request::Unreadable))?;
-        check(matches!(request_of("contract +12"), Request::Unreadable))?;
-        check(matches!(request_of("Contract 12"), Request::Unreadable))?;
-        check(matches!(request_of(" # sheet a.bin"), Request::Unreadable))
-    }
-}
