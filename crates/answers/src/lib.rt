@@ -1,6 +1,8 @@
 //! The console's answers about sheets and contracts, as text on a line of fixed room. Each is written behind what
 //! stands on the line.
 
+#![tactic(auto)]
+
 ghost use Rattle.std.specs.Prelude.{◌≡◌, ℕ, ◌++◌, codes, Option, Result};
 ghost use Rattle.std.specs.Fmt.{signed_decimal};
 ghost use Rattle.refusals.specs.Numbers.{refusal_of};

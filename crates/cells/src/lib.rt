@@ -1,5 +1,7 @@
 //! Tables of fixed room, which ask for no memory: cells of which one can be lent for change, and rows that are filled from the front.
 
+#![tactic(auto)]
+
 mod cells;
 pub mod rows;
 

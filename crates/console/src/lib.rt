@@ -1,5 +1,7 @@
 //! What a line of the console asks.
 
+#![tactic(auto)]
+
 ghost use Rattle.std.specs.Prelude.{◌≡◌, ◌∷◌, ◌==◌, slice_index};
 ghost use Rattle.console.specs.Words.{words, only};
 ghost use Rattle.console.specs.Calls.{order_by};

@@ -1,5 +1,7 @@
 //! What clients lack, and what those that lack most lack together. Money is in centavos.
 
+#![tactic(auto)]
+
 ghost use Rattle.std.specs.Prelude.{◌≡◌, ◌≤◌, true, length, take, IfSome, MatchOption, unsigned_abs};
 ghost use Rattle.figures.specs.Sums.{total, total_greatest};
 ghost use Rattle.keeper.specs.Kept.{left_out, Keeping};

@@ -1,4 +1,7 @@
 //! The figures of a limit statement, over any scenario model. Money is in centavos.
+
+#![tactic(auto)]
+
 pub mod accounts;
 mod answers;
 pub mod bounds;

@@ -1,5 +1,7 @@
 //! Whether a file is accepted as a sheet, or the first cause for which it is refused.
 
+#![tactic(auto)]
+
 ghost use Rattle.std.specs.Prelude.{◌≡◌, ◌≤◌, IfOk};
 ghost use Rattle.refusals.specs.Numbers.{refusal_of};
 ghost use Rattle.layout.specs.Fields.{kind};

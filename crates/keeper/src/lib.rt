@@ -1,5 +1,7 @@
 //! The keeper of the largest: over n lent cells it holds the n greatest of the records that it is offered, greatest first.
 
+#![tactic(auto)]
+
 ghost use Rattle.std.specs.Prelude.{◌≡◌, ◌+◌, ◌≤◌, min, Bool, true, false, cond, length, take, drop};
 ghost use Rattle.std.specs.Cmp.{IsStrictWeakOrder};
 ghost use Rattle.keeper.specs.Order.{Apart};
@@ -44,7 +46,7 @@ impl<'a, T: Ranked> Keeper<'a, T> {
     /// Takes `x` into its place among the held records. Where all cells were filled, the last then falls out.
     pub fn offer(&mut self, x: T)
         ensures count { self.new.filled ≡ min (width self.old) (self.old.filled + 1) }
-        ensures held { held_by self.new ≡ take (width self.old) (insert before x (held_by self.old)) }
+        ensures held { held_by self.new ≡ take (width self.old) (insert T.before x (held_by self.old)) }
         ensures rest { drop self.new.filled (cells_of self.new) ≡ drop self.new.filled (cells_of self.old) }
         ensures size { width self.new ≡ width self.old }
         ensures lent { self.new.cells.ghost_name ≡ self.old.cells.ghost_name }
@@ -75,7 +77,7 @@ impl<'a, T: Ranked> Keeper<'a, T> {
 fn put_in<T: Ranked>(cells: &mut [T], filled: usize, x: T) -> usize
     requires { filled ≤ length cells.old }
     ensures count { result ≡ min (length cells.old) (filled + 1) }
-    ensures held { take result cells.new ≡ take (length cells.old) (insert before x (take filled cells.old)) }
+    ensures held { take result cells.new ≡ take (length cells.old) (insert T.before x (take filled cells.old)) }
     ensures rest { drop result cells.new ≡ drop result cells.old }
 {
     let mut carry = x;
@@ -100,11 +102,11 @@ fn put_in<T: Ranked>(cells: &mut [T], filled: usize, x: T) -> usize
 /// The others keep what they hold. The order of the offers does not matter.
 pub fn keep_greatest<T: Ranked>(cells: &mut [T], offered: &[T]) -> usize
     ensures count { result ≡ min (length cells.old) (length offered.now) }
-    ensures held { take result cells.new ≡ kept before (length cells.old) offered.now }
+    ensures held { take result cells.new ≡ kept T.before (length cells.old) offered.now }
     ensures rest { drop result cells.new ≡ drop result cells.old }
-    ensures greatest { Greatest before offered.now (take result cells.new) (left_out before (length cells.old) offered.now) }
-    ensures only { OnlyGreatest before offered.now (take result cells.new) }
-    ensures order { AnyOrder before (length cells.old) offered.now (take result cells.new) }
+    ensures greatest { Greatest T.before offered.now (take result cells.new) (left_out T.before (length cells.old) offered.now) }
+    ensures only { OnlyGreatest T.before offered.now (take result cells.new) }
+    ensures order { AnyOrder T.before (length cells.old) offered.now (take result cells.new) }
 {
     let mut keeper = Keeper::new(cells);
     for x in offered {

@@ -1,5 +1,7 @@
 //! A line of text of fixed room, which asks for no memory. What it has no room for is left out.
 
+#![tactic(auto)]
+
 ghost use Rattle.std.specs.Prelude.{◌≡◌, [], ◌∷◌, ◌++◌, decimal};
 ghost use Rattle.std.specs.Fmt.{sign_text, signed_decimal};
 ghost use Rattle.lines.specs.Lined.{written, followed};

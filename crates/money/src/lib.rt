@@ -1,5 +1,7 @@
 //! The calls that move money in a book: deposits, slips, settlement amounts, and the needs at the opening.
 
+#![tactic(auto)]
+
 mod accounts;
 pub mod settling;
 mod slips;

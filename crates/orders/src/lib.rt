@@ -1,5 +1,7 @@
 //! The words in which a day is ordered: sides, holders, lots, and the orders themselves. Numbers, quantities, prices and amounts are as wide as their types: what lies outside a range can be said, and is refused by the call.
 
+#![tactic(auto)]
+
 /// Which way a trade goes.
 #[derive(Clone, Copy)]
 pub enum Side {

@@ -1,6 +1,8 @@
 //! How fast a sheet is filled and read: 64 contracts in 64 scenarios, filled a hundred times, and a million shocks.
 //! What is worked out goes to standard output, and how long it took to standard error.
 
+#![tactic(auto)]
+
 use scenario::ScenarioModel;
 use sheets::kinds::Sheet;
 use std::time::Instant;

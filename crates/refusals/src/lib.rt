@@ -1,5 +1,7 @@
 //! Why a call is refused: one table of numbers for the whole product.
 
+#![tactic(auto)]
+
 ghost use Rattle.std.specs.Prelude.{◌≡◌, Some};
 ghost use Rattle.refusals.specs.Numbers.{number_of, text_of};
 

@@ -1,5 +1,7 @@
 //! Rounding to the nearest whole number, halves away from zero.
 
+#![tactic(auto)]
+
 ghost use Rattle.std.specs.Prelude.{◌≡◌};
 ghost use Rattle.rounding.specs.Rounding.{parts, nearest, Nearest, Agree};
 

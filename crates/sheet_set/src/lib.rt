@@ -1,5 +1,7 @@
 //! Up to eight sheets as one scenario model: nested pairs of eight places.
 
+#![tactic(auto)]
+
 ghost use Rattle.std.specs.Prelude.{◌≡◌, ℕ, ◌+◌, ◌<◌, ◌≤◌, map, replicate, MatchOption, slice_index_or};
 ghost use Rattle.refusals.specs.Numbers.{refusal_of};
 ghost use Rattle.inspection.specs.Causes.{sheet_cause};

@@ -1,5 +1,7 @@
 //! Scenario sheets: one call fills a sheet from the bytes of a file, or refuses them; each kind of sheet is a scenario model.
 
+#![tactic(auto)]
+
 mod decode;
 mod filling;
 pub mod index;

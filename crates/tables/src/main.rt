@@ -1,6 +1,8 @@
 //! The worked tables of the field: it reads rows from standard input, works the figures that they ask for out through the
 //! library, and prints each beside what it should be.
 
+#![tactic(auto)]
+
 mod examples;
 mod greatest;
 mod losses;

@@ -1,5 +1,7 @@
 //! Worked examples of the field, proved of the definitions.
 
+#![tactic(auto)]
+
 ghost use Rattle.std.specs.Prelude.{◌≡◌};
 ghost use Rattle.worked.specs.Worked.{WorkedExamples};
 

@@ -15,8 +15,8 @@ returns g c =
     let many : m ≡ min filled (length cells) = ap length c.held-held.ensures ∙ length-take filled cells in
     record {
       count = omega arith;
-      held = c.put-in-self.ensures.held ∙ ap (λ l. take (length cells) (insert g.T.Ranked.before c.args.x l)) (take_min cells filled m many);
-      rest = c.put-in-self.ensures.rest;
-      size = c.put-in-self.auto.cells;
+      held = c.put_in-self.ensures.held ∙ ap (λ l. take (length cells) (insert g.T.Ranked.before c.args.x l)) (take_min cells filled m many);
+      rest = c.put_in-self.ensures.rest;
+      size = c.put_in-self.auto.cells;
       lent = refl;
     }
