@@ -4,8 +4,8 @@ use Rattle.keeper.specs.Kept.{insert}
 use Rattle.keeper.proofs.Kept.{take_min}
 use Rattle.keeper.proofs.Keeper.offer.Goals as goal
 
-pub put-in-self-requires : goal.put-in-self-requires
-put-in-self-requires g c = omega (arith, length-take c.args.self.now.filled c.args.self.now.cells.now, ap length c.held-held.ensures)
+pub put_in-self-requires : goal.put_in-self-requires
+put_in-self-requires g c = omega (arith, length-take c.args.self.now.filled c.args.self.now.cells.now, ap length c.held-held.ensures)
 
 pub returns : goal.returns
 returns g c =

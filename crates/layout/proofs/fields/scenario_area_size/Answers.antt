@@ -16,6 +16,6 @@ returns-in-2 c =
     let b : c.contract_count.result * c.scenario_count-in-2.result < 65536 * 65536 = mul-lt _ _ 65536 65536 (search rules) (search rules) in
     grind (arith, nat_tests)
 
-pub returns-in-default : goal.returns-in-default
+pub returns-in_default : goal.returns-in_default
 unfolding scenario_bytes
-returns-in-default c = grind (arith, nat_tests)
+returns-in_default c = grind (arith, nat_tests)

@@ -3,8 +3,8 @@ use Rattle.scenario.specs.Counts.{sum_below, all_scenarios}
 use Rattle.scenario.proofs.Counts.{sum_more, scenarios_few, all_few, all_some}
 use Rattle.scenario.proofs.count.scenario_count.Goals as goal
 
-pub overflow-add-count : goal.overflow-add-count
-overflow-add-count g c =
+pub overflow_add-count : goal.overflow_add-count
+overflow_add-count g c =
     let t = g.M.ScenarioModel.table c.args.model.now in
     let l = g.met.M.ScenarioModel.lawful c.args.model.now in
     omega (arith, scenarios_few t l c.loop-k.k, l.few_scenarios c.loop-k.k, l.few_subportfolios)
