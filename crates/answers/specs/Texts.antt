@@ -3,10 +3,13 @@ use Rattle.std.specs.Prelude.{ℕ, zero, suc, cond, List, [], ◌++◌, Some, No
 use Rattle.std.specs.Fmt.{signed_decimal}
 use Rattle.refusals.specs.declared.Refusal.{Refusal}
 use Rattle.refusals.specs.declared.Refusal.TheVariants.{Unknown}
-use Rattle.replies.specs.declared.notes.Misplaced.TheVariants.{SheetsFull}
-use Rattle.replies.specs.Texts.{refused_text, misplaced_text}
+use Rattle.refusals.specs.Numbers.{number_of, text_of}
 use Rattle.layout.specs.Fields.{kind, contracts, scenarios}
 use Rattle.scenario.specs.Table.{ScenarioTable}
+
+-- a refusal: its number, and one line for people
+abbrev pub refused_text : Refusal → List ℕ
+refused_text e = codes "refused " ++ (decimal (number_of e) ++ (codes " " ++ text_of e))
 
 -- the name of a kind of sheet, by its number in a file
 abbrev pub kind_name : ℕ → List ℕ
@@ -17,10 +20,14 @@ abbrev pub sheet_text : ℕ → List ℕ → List ℕ
 sheet_text place b =
     codes "sheet " ++ (decimal place ++ (codes " " ++ (kind_name (kind b) ++ (codes " contracts " ++ (decimal (contracts b) ++ (codes " scenarios " ++ decimal (scenarios b)))))))
 
--- what reading the file b into the set of sheets came to: the sheet, that it finds no place, or a refusal
+-- a file that finds no place
+abbrev pub misplaced_text : List ℕ
+misplaced_text = codes "misplaced eight sheets are read already"
+
+-- what reading the file b into the set of sheets came to
 abbrev pub added_text : Result (Option ℕ) Refusal → List ℕ → List ℕ
 added_text (Ok (Some place)) b = sheet_text place b
-added_text (Ok None) b = misplaced_text SheetsFull
+added_text (Ok None) b = misplaced_text
 added_text (Err e) b = refused_text e
 
 -- a contract's shocks in the first n scenarios, each after a space

@@ -1,24 +1,27 @@
-//! The console's answers about sheets and contracts, as text on a line of fixed room. Each is written behind what
-//! stands on the line.
+//! The console's answers, as text.
 
-#![tactic(auto)]
-
-ghost use Rattle.std.specs.Prelude.{◌≡◌, ℕ, ◌++◌, codes, Option, Result};
+ghost use Rattle.std.specs.Prelude.{◌≡◌, ℕ, ◌++◌, IfOk, string_bytes, codes, Option, Result, OnOk};
 ghost use Rattle.std.specs.Fmt.{signed_decimal};
 ghost use Rattle.refusals.specs.Numbers.{refusal_of};
 ghost use Rattle.layout.specs.Fields.{kind};
 ghost use Rattle.inspection.specs.Causes.{sheet_cause};
 ghost use Rattle.sheet_set.specs.Places.{Added};
-ghost use Rattle.lines.specs.Lined.{written, followed};
-ghost use Rattle.answers.specs.Texts.{kind_name, sheet_text, added_text, shocks_text, heading_text, contract_text};
+ghost use Rattle.answers.specs.Texts.{refused_text, kind_name, sheet_text, misplaced_text, added_text, shocks_text, heading_text, contract_text};
 
 use layout::fields::{FACTORS, SERIES, contract_count, kind_of, scenario_count};
-use lines::Line;
 use refusals::Refusal;
-use replies::day::{misplaced_line, refused_line};
-use replies::notes::Misplaced;
 use scenario::ScenarioModel;
 use sheet_set::sets::SheetSet;
+use std::alloc::{AllocError, Global};
+
+/// The answer to a line that is refused: the refusal's number and its text.
+pub fn refused_line(heap: Global, refusal: Refusal) -> Result<String, AllocError>
+    ensures { IfOk result (λ s. string_bytes s ≡ refused_text refusal) }
+{
+    let number = refusal.number();
+    let line = format!(in heap; "refused {number} {refusal}")?;
+    Ok(line)
+}
 
 // The name of the kind of sheet that a file has.
 fn kind_name(file: &[u8]) -> &'static str
@@ -32,64 +35,84 @@ fn kind_name(file: &[u8]) -> &'static str
 }
 
 // The answer to a file that was read: its place and its kind, how many contracts it has, and how many scenarios.
-fn sheet_line(line: &mut Line, place: u8, file: &[u8])
-    ensures { written line.new ≡ followed (written line.old) (sheet_text place file.now) }
+fn sheet_line(heap: Global, place: u8, file: &[u8]) -> Result<String, AllocError>
+    ensures { IfOk result (λ s. string_bytes s ≡ sheet_text place file.now) }
 {
-    line.push_str("sheet ");
-    line.push_number(u64::from(place));
-    line.push_str(" ");
-    line.push_str(kind_name(file));
-    line.push_str(" contracts ");
-    line.push_number(u64::from(contract_count(file)));
-    line.push_str(" scenarios ");
-    line.push_number(u64::from(scenario_count(file)));
+    let kind = kind_name(file);
+    let contracts = contract_count(file);
+    let scenarios = scenario_count(file);
+    let line = format!(in heap;
+        "sheet {place} {kind} contracts {contracts} scenarios {scenarios}"
+    )?;
+    Ok(line)
+}
+
+// The answer to a file that finds no place.
+fn misplaced_line(heap: Global) -> Result<String, AllocError>
+    ensures { IfOk result (λ s. string_bytes s ≡ misplaced_text) }
+{
+    String::from_str(heap, "misplaced eight sheets are read already")
 }
 
 /// Reads a file into the set of sheets, and tells what that came to: the place that it took, that it found none, or
 /// why it was refused. The set has changed by what is told, and stays as it was unless the file took a place.
-pub fn add_sheet(line: &mut Line, sheets: &mut SheetSet, file: &[u8])
-    ensures { (a : Result (Option ℕ) Refusal) × (refusal_of a ≡ sheet_cause file.now) × Added a file.now sheets.old sheets.new × (written line.new ≡ followed (written line.old) (added_text a file.now)) }
+pub fn add_sheet(heap: Global, sheets: &mut SheetSet, file: &[u8]) -> Result<String, AllocError>
+    ensures { (a : Result (Option ℕ) Refusal) × (refusal_of a ≡ sheet_cause file.now) × Added a file.now sheets.old sheets.new × IfOk result (λ s. string_bytes s ≡ added_text a file.now) }
 {
     match sheets.add(file) {
-        Ok(Some(place)) => sheet_line(line, place, file),
-        Ok(None) => misplaced_line(line, Misplaced::SheetsFull),
-        Err(refusal) => refused_line(line, refusal),
+        Ok(Some(place)) => sheet_line(heap, place, file),
+        Ok(None) => misplaced_line(heap),
+        Err(refusal) => refused_line(heap, refusal),
     }
 }
 
 // What comes before the shocks of a contract.
-fn heading(line: &mut Line, contract: u8, place: u8, multiplier: u16)
-    ensures { written line.new ≡ followed (written line.old) (heading_text contract place multiplier) }
+fn heading(heap: Global, contract: u8, place: u8, multiplier: u16) -> Result<String, AllocError>
+    ensures { IfOk result (λ s. string_bytes s ≡ heading_text contract place multiplier) }
 {
-    line.push_str("contract ");
-    line.push_number(u64::from(contract));
-    line.push_str(" subportfolio ");
-    line.push_number(u64::from(place));
-    line.push_str(" multiplier ");
-    line.push_number(u64::from(multiplier));
-    line.push_str(" shocks");
+    format!(in heap; "contract {contract} subportfolio {place} multiplier {multiplier} shocks")
 }
 
-// Adds the shocks of a contract in the first `count` scenarios to a line, each after a space.
-fn add_shocks<M: ScenarioModel>(line: &mut Line, model: &M, contract: u8, count: u8)
-    ensures { written line.new ≡ followed (written line.old) (shocks_text (M.ScenarioModel.table model.now) contract count) }
+// Adds a shock to a line, after a space.
+fn add_shock(heap: Global, line: &mut String, shock: i64) -> Result<(), AllocError>
+    ensures { OnOk result (string_bytes line.new ≡ string_bytes line.old ++ (codes " " ++ signed_decimal shock)) }
+{
+    let word = format!(in heap; " {shock}")?;
+    line.push_str(word.as_str())
+}
+
+// Adds the shocks of a contract in the first `count` scenarios to a line.
+fn add_shocks<M: ScenarioModel>(
+    heap: Global,
+    line: &mut String,
+    model: &M,
+    contract: u8,
+    count: u8,
+) -> Result<(), AllocError>
+    ensures { OnOk result (string_bytes line.new ≡ string_bytes line.old ++ shocks_text (M.ScenarioModel.table model.now) contract count) }
 {
     for scenario in 0..count {
-        line.push_str_signed(" ", model.shock(contract, scenario));
+        add_shock(heap, line, model.shock(contract, scenario))?;
     }
+    Ok(())
 }
 
 /// The answer about a contract of a model: its subportfolio, its multiplier, and its shock in each scenario of the
 /// subportfolio; an unknown contract is refused.
-pub fn contract_line<M: ScenarioModel>(line: &mut Line, model: &M, contract: u64)
-    ensures { written line.new ≡ followed (written line.old) (contract_text (M.ScenarioModel.table model.now) contract) }
+pub fn contract_line<M: ScenarioModel>(
+    heap: Global,
+    model: &M,
+    contract: u64,
+) -> Result<String, AllocError>
+    ensures { IfOk result (λ s. string_bytes s ≡ contract_text (M.ScenarioModel.table model.now) contract) }
 {
     let Ok(number) = u8::try_from(contract) else {
-        return refused_line(line, Refusal::Unknown);
+        return refused_line(heap, Refusal::Unknown);
     };
     let Some((place, multiplier)) = model.place(number) else {
-        return refused_line(line, Refusal::Unknown);
+        return refused_line(heap, Refusal::Unknown);
     };
-    heading(line, number, place, multiplier);
-    add_shocks(line, model, number, model.scenarios(place));
+    let mut line = heading(heap, number, place, multiplier)?;
+    add_shocks(heap, &mut line, model, number, model.scenarios(place))?;
+    Ok(line)
 }

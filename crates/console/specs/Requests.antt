@@ -2,18 +2,15 @@
 use Rattle.std.specs.Prelude.{ℕ, cond, List, [], ◌∷◌, Some, None, codes, Option, ◌==◌, slice_index}
 use Rattle.std.specs.Str.{bytes_eq}
 use Rattle.console.specs.declared.Request.{Request}
-use Rattle.console.specs.declared.Request.TheVariants.{Nothing, Sheet, Contract, Order, Unreadable}
-use Rattle.orders.specs.declared.Order.{Order as Ordered}
-use Rattle.console.specs.Calls.{order_by}
+use Rattle.console.specs.declared.Request.TheVariants.{Nothing, Sheet, Contract, Unreadable}
 use Rattle.console.specs.Numbers.{decimal}
 use Rattle.console.specs.Words.{words, only}
 
--- what a line can ask: nothing, to read the sheet at a path, what a contract gains, an order of the day, or nothing that is known
+-- what a line can ask: nothing, to read the sheet at a path, what a contract gains, or nothing that is known
 pub data Asked : Type 0 where
   nothing : Asked
   sheet : List ℕ → Asked
   contract : ℕ → Asked
-  order : Ordered → Asked
   unreadable : Asked
 
 abbrev pub sheet_at : Option (List ℕ) → Asked
@@ -28,16 +25,12 @@ abbrev pub number_in : Option (List ℕ) → Option ℕ
 number_in None = None
 number_in (Some w) = decimal w
 
-abbrev pub order_asked : Option Ordered → Asked
-order_asked None = unreadable
-order_asked (Some o) = order o
-
 -- what a line asks by its words: the first says what, the others about what
 abbrev pub asked_by : List (List ℕ) → Asked
 asked_by [] = nothing
 asked_by (w ∷ ws) =
     cond (bytes_eq w (codes "sheet")) (sheet_at (only ws))
-    (cond (bytes_eq w (codes "contract")) (contract_of (number_in (only ws))) (order_asked (order_by w ws)))
+    (cond (bytes_eq w (codes "contract")) (contract_of (number_in (only ws))) unreadable)
 
 -- a line that begins with # asks nothing
 abbrev pub asked : List ℕ → Asked
@@ -48,5 +41,4 @@ abbrev pub meant : Request → Asked
 meant Nothing = nothing
 meant (Sheet path) = sheet path.now
 meant (Contract n) = contract n
-meant (Order o) = order o
 meant Unreadable = unreadable

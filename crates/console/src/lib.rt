@@ -1,20 +1,13 @@
 //! What a line of the console asks.
 
-#![tactic(auto)]
-
 ghost use Rattle.std.specs.Prelude.{◌≡◌, ◌∷◌, ◌==◌, slice_index};
 ghost use Rattle.console.specs.Words.{words, only};
-ghost use Rattle.console.specs.Calls.{order_by};
-ghost use Rattle.console.specs.Requests.{asked, asked_by, order_asked, sheet_at, contract_of, number_in, meant};
+ghost use Rattle.console.specs.Requests.{asked, asked_by, sheet_at, contract_of, number_in, meant};
 
-mod calls;
-mod fields;
 mod numbers;
 mod words;
 
-use calls::order_by;
-pub use numbers::{amount, number, whole};
-use orders::Order;
+pub use numbers::number;
 pub use words::{is_blank, next_word, only_word};
 
 /// What a line asks.
@@ -26,8 +19,6 @@ pub enum Request<'a> {
     Sheet(&'a str),
     /// What a contract gains and loses in the scenarios.
     Contract(u64),
-    /// An order of the day.
-    Order(Order),
     /// No line that the console knows.
     Unreadable,
 }
@@ -59,16 +50,6 @@ fn contract(rest: &str) -> Request<'_>
     }
 }
 
-// What a line asks that begins with a word, if it is to give an order.
-fn order<'a>(verb: &str, rest: &'a str) -> Request<'a>
-    ensures { meant result ≡ order_asked (order_by verb.now (words rest.now)) }
-{
-    match order_by(verb, rest) {
-        Some(order) => Request::Order(order),
-        None => Request::Unreadable,
-    }
-}
-
 // What a line asks that begins with a word, by the words that follow it.
 fn request_for<'a>(verb: &str, rest: &'a str) -> Request<'a>
     ensures { meant result ≡ asked_by (verb.now ∷ words rest.now) }
@@ -76,7 +57,7 @@ fn request_for<'a>(verb: &str, rest: &'a str) -> Request<'a>
     match verb {
         "sheet" => sheet(rest),
         "contract" => contract(rest),
-        _ => order(verb, rest),
+        _ => Request::Unreadable,
     }
 }
 

@@ -1,27 +1,29 @@
 //! The console: it reads lines from standard input, and answers each at once on standard output.
 
-#![tactic(auto)]
-
 use answers::{add_sheet, contract_line};
 use console::{Request, request_of};
-use lines::Line;
-use replies::day::unreadable_line;
-use replies::notes::Unreadable;
 use sheet_set::sets::SheetSet;
-use std::io::{BufRead, BufReader, Read, Write};
+use std::alloc::AllocError;
+use std::io::{BufRead, BufReader, Read};
 use std::{fs, io};
 
 /// The most bytes read of a file: one more than a sheet may have, so that a longer one is known.
 const MOST_READ: u64 = 65_537;
 
-/// What became of a line, beside the text of its answer.
-enum Outcome {
-    /// Nothing is answered.
+/// The answer to a line that the program does not know.
+const NO_LINE: &str = "unreadable not a line of this program";
+
+/// The answer to a path at which no file can be read.
+const NO_FILE: &str = "unreadable the file cannot be read";
+
+/// What a line came to.
+enum Answer {
+    /// Nothing is written.
     Silent,
-    /// The answer is written.
-    Told,
-    /// It is written that the line, or the file that it names, cannot be read.
-    Unreadable,
+    /// A line is written.
+    Line(String),
+    /// The line, or the file that it names, cannot be read.
+    Unreadable(&'static str),
 }
 
 // The start of the file at a path.
@@ -31,62 +33,43 @@ fn read_file(rt: &HostRuntime, path: &str) -> io::Result<Vec<u8>> {
     Ok(bytes)
 }
 
-// Writes why a line, or the file that it names, cannot be read.
-fn unreadable(answer: &mut Line, why: Unreadable) -> Outcome {
-    unreadable_line(answer, why);
-    Outcome::Unreadable
-}
-
-// Writes the answer to a line that names a file.
-fn answer_sheet(rt: &HostRuntime, sheets: &mut SheetSet, path: &str, answer: &mut Line) -> Outcome {
+// The answer to a line that names a file.
+fn answer_sheet(rt: &HostRuntime, sheets: &mut SheetSet, path: &str) -> Result<Answer, AllocError> {
     match read_file(rt, path) {
-        Ok(file) => {
-            add_sheet(answer, sheets, file.as_slice());
-            Outcome::Told
-        }
-        Err(_) => unreadable(answer, Unreadable::NoFile),
+        Ok(file) => Ok(Answer::Line(add_sheet(rt.alloc(), sheets, file.as_slice())?)),
+        Err(_) => Ok(Answer::Unreadable(NO_FILE)),
     }
 }
 
-// Writes the answer to a line.
-fn answer_to(rt: &HostRuntime, sheets: &mut SheetSet, line: &str, answer: &mut Line) -> Outcome {
+// The answer to a line.
+fn answer_to(rt: &HostRuntime, sheets: &mut SheetSet, line: &str) -> Result<Answer, AllocError> {
     match request_of(line) {
-        Request::Nothing => Outcome::Silent,
-        Request::Sheet(path) => answer_sheet(rt, sheets, path, answer),
-        Request::Contract(contract) => {
-            contract_line(answer, sheets.model(), contract);
-            Outcome::Told
-        }
-        Request::Order(_) | Request::Unreadable => unreadable(answer, Unreadable::NoLine),
+        Request::Nothing => Ok(Answer::Silent),
+        Request::Sheet(path) => answer_sheet(rt, sheets, path),
+        Request::Contract(contract) => Ok(Answer::Line(contract_line(
+            rt.alloc(),
+            sheets.model(),
+            contract,
+        )?)),
+        Request::Unreadable => Ok(Answer::Unreadable(NO_LINE)),
     }
-}
-
-// Prints what is written.
-fn print(rt: &HostRuntime, answer: &Line) -> io::Result<()> {
-    let mut out = rt.stdout();
-    out.write_all(answer.as_bytes())?;
-    out.write_all(b"\n")
 }
 
 // Answers a line of the input, and tells whether it was readable. A line that is no text is unreadable.
 fn respond(rt: &HostRuntime, sheets: &mut SheetSet, line: io::Result<String>) -> io::Result<bool> {
-    let mut answer = Line::new();
-    let outcome = match line {
-        Ok(text) => answer_to(rt, sheets, text.as_str(), &mut answer),
-        Err(error) if error.kind() == io::ErrorKind::InvalidData => unreadable(
-            &mut answer,
-            Unreadable::NoLine,
-        ),
+    let answer = match line {
+        Ok(text) => answer_to(rt, sheets, text.as_str())?,
+        Err(error) if error.kind() == io::ErrorKind::InvalidData => Answer::Unreadable(NO_LINE),
         Err(error) => return Err(error),
     };
-    match outcome {
-        Outcome::Silent => Ok(true),
-        Outcome::Told => {
-            print(rt, &answer)?;
+    match answer {
+        Answer::Silent => Ok(true),
+        Answer::Line(text) => {
+            rt.println(text)?;
             Ok(true)
         }
-        Outcome::Unreadable => {
-            print(rt, &answer)?;
+        Answer::Unreadable(text) => {
+            rt.println(text)?;
             Ok(false)
         }
     }

@@ -1,15 +1,14 @@
-use Rattle.std.proofs.Common.{w64, SFits, rules}
+use Rattle.std.proofs.Common.{sym, append-nil, w64, SFits, rules}
 use Rattle.std.proofs.lemmas.Int.{to_z-of_z}
-use Rattle.lines.proofs.Room.{followed_none}
 use Rattle.answers.specs.Texts.{shocks_text}
 use Rattle.answers.proofs.Shocks.{shocks_more}
 use Rattle.answers.proofs.add_shocks.Goals as goal
 
 pub loop-scenario-init : goal.loop-scenario-init
 unfolding shocks_text
-loop-scenario-init g c = followed_none c.args.line.now
+loop-scenario-init g c = sym (append-nil _)
 
 pub loop-scenario-preserved : goal.loop-scenario-preserved
 loop-scenario-preserved g c =
     let fits : SFits w64 c.shock.result = search rules in
-    shocks_more _ _ _ _ _ _ _ _ c.push-str-signed.ensures c.loop-scenario.invariant (to_z-of_z w64 c.shock.result fits) c.shock.ensures
+    shocks_more _ _ _ _ _ _ _ _ c.in-ok-add-shock.ensures c.loop-scenario.invariant (to_z-of_z w64 c.shock.result fits) c.shock.ensures

@@ -4,5 +4,4 @@ use Rattle.console.proofs.request_for.Goals as goal
 
 pub returns-in-default : goal.returns-in-default
 returns-in-default c =
-    c.order.ensures
-    ∙ sym (passed_over c.args.verb.now (codes "sheet") _ _ c.in-default.not-sheet ∙ passed_over c.args.verb.now (codes "contract") _ _ c.in-default.not-contract)
+    sym (passed_over c.args.verb.now (codes "sheet") _ _ c.in-default.not-sheet ∙ passed_over c.args.verb.now (codes "contract") _ _ c.in-default.not-contract)

@@ -1,6 +1,6 @@
 use Rattle.std.proofs.Common.{codes, sym, ◌∙◌}
-use Rattle.console.proofs.Verbs.{passed_over}
-use Rattle.console.proofs.calls.settlement.Goals as goal
+use Rattle.commands.proofs.Verbs.{passed_over}
+use Rattle.commands.proofs.calls.settlement.Goals as goal
 
 pub returns-in-default : goal.returns-in-default
 returns-in-default c =

@@ -4,8 +4,8 @@ use Rattle.std.specs.Option.{option_map, option_or}
 use Rattle.std.specs.Str.{bytes_eq}
 use Rattle.orders.specs.declared.Order.{Order}
 use Rattle.orders.specs.declared.Order.TheVariants.{Trader, Client, Carry, Price, Deposit, Open, Trade, Specify, Cancel, Withdraw, Settle, PutBack, Cash, Window, Statement}
-use Rattle.console.specs.Fields.{alone, no_words, two_numbers, two_amounts, number_and_amount, number_and_lot, collateral}
-use Rattle.console.specs.Numbers.{whole}
+use Rattle.commands.specs.Fields.{alone, no_words, two_numbers, two_amounts, number_and_amount, number_and_lot, collateral}
+use Rattle.commands.specs.Numbers.{whole}
 
 -- the orders of the preparation
 abbrev pub preparation : List ℕ → List (List ℕ) → Option Order

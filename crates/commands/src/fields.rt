@@ -2,12 +2,12 @@
 
 ghost use Rattle.std.specs.Prelude.{◌≡◌};
 ghost use Rattle.std.specs.Option.{option_map};
-ghost use Rattle.console.specs.Fields as said;
-ghost use Rattle.console.specs.Numbers as written;
+ghost use Rattle.commands.specs.Fields as said;
+ghost use Rattle.commands.specs.Numbers as written;
 ghost use Rattle.console.specs.Words.{words};
 
 use crate::numbers::{amount, whole};
-use crate::words::{next_word, only_word};
+use console::{next_word, only_word};
 use orders::{Holder, Lot, Side};
 
 // The number in the first word, and what comes after it.

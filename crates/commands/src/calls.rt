@@ -1,14 +1,14 @@
 //! The orders that lines give, each by its first word and the words after it.
 
 ghost use Rattle.std.specs.Prelude.{◌≡◌};
-ghost use Rattle.console.specs.Calls as called;
-ghost use Rattle.console.specs.Fields.{no_words};
+ghost use Rattle.commands.specs.Calls as called;
+ghost use Rattle.commands.specs.Fields.{no_words};
 ghost use Rattle.console.specs.Words.{words};
 
 use crate::fields::{
     collateral, number_and_amount, number_and_lot, one_number, two_amounts, two_numbers,
 };
-use crate::words::is_blank;
+use console::is_blank;
 use orders::Order;
 
 // The order, where no word follows its own.

@@ -1,6 +1,6 @@
 use Rattle.std.proofs.Common.{sym, ◌∙◌, true-eqb, false-eqb}
-use Rattle.console.proofs.Numerals.{amount_plus, amount_read}
-use Rattle.console.proofs.numbers.amount.Goals as goal
+use Rattle.commands.proofs.Numerals.{amount_plus, amount_read}
+use Rattle.commands.proofs.numbers.amount.Goals as goal
 
 pub returns-then-has-plus : goal.returns-then-has-plus
 returns-then-has-plus c = amount_plus c.args.word.now (true-eqb _ 43 c.if-has-plus.ensures)

@@ -1,7 +1,7 @@
 use Rattle.std.proofs.Common.{eqb, get_or, lit<}
 use Rattle.std.proofs.lemmas.Str.Pattern.{starts_char}
 use Rattle.std.proofs.lemmas.Bool.Decides.{same_from_decides, Decides-eqb}
-use Rattle.console.proofs.numbers.has_plus.Goals as goal
+use Rattle.commands.proofs.numbers.has_plus.Goals as goal
 
 pub returns : goal.returns
 returns c =

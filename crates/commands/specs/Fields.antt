@@ -7,7 +7,7 @@ use Rattle.orders.specs.declared.Side.TheVariants.{Buy, Sell}
 use Rattle.orders.specs.declared.Holder.{Holder}
 use Rattle.orders.specs.declared.Holder.TheVariants.{Client, Trader, Member}
 use Rattle.orders.specs.declared.Lot.{Lot}
-use Rattle.console.specs.Numbers.{whole, amount}
+use Rattle.commands.specs.Numbers.{whole, amount}
 
 -- what is read, before the words that follow it
 abbrev pub before_words : {A : Type 0} → Option A → List (List ℕ) → Option (A × List (List ℕ))
