@@ -3,7 +3,7 @@ use Rattle.std.proofs.Common.{◌≡◌, ℕ, zero, suc, ◌<◌, Bool, true, fa
 use Rattle.std.specs.Cmp.{IsStrictWeakOrder}
 use Rattle.std.specs.List.{swap, AllByRecursion as All}
 use Rattle.std.specs.List.Sorted.{IsPermutation}
-use Rattle.std.proofs.ByRecursion.{All-take, All-drop, All-weaker}
+use Rattle.std.proofs.ByRecursion.{All-take, All-drop}
 use Rattle.std.proofs.lemmas.List.{append-nil, take-append-drop, take_at, length-set, get_or-set_same, get_or-set_other}
 use Rattle.std.proofs.lemmas.List.Sorted.{IsPermutation-refl, IsPermutation-cons, IsPermutation-swap, IsPermutation-trans, IsPermutation-keeps}
 use Rattle.std.proofs.lemmas.Bool.{true≢false, cases_eq}
