@@ -1,12 +1,12 @@
 -- `cell` lends one element of the array, and the struct follows it, for every element type. Assumes `Logic`.
-use Rattle.std.proofs.Common.{◌≡◌, ℕ, zero, suc, ◌+◌, ◌*◌, ◌^◌, ◌<◌, ◌≤◌, List, [], ◌∷◌, length, get_or, set, sym, refl, ◌∙◌, subst, le_of_suc-le-suc, not-suc-le-zero, mul-le-mul_right, arith, length-set, w64}
+use Rattle.std.proofs.Common.{◌≡◌, ℕ, zero, suc, ◌+◌, ◌*◌, ◌^◌, ◌<◌, ◌≤◌, List, [], ◌∷◌, length, get_or, set, sym, refl, ◌∙◌, le_of_suc-le-suc, not-suc-le-zero, mul-le-mul_right, arith, length-set, w64}
 use seplogic.Ra.Ura.{Ura}
 use base.Fraction.{full_share}
-use mir.Syntax.{Fn, Ty, Args, named, a_type, a_number, ty_array}
+use mir.Syntax.{Fn, Args, named, a_type, a_number, ty_array}
 use mir.MapTy.{inst_fn}
 use mir.Val.{Val, vint, vptr}
 use base.Logic.{SProp, ent, sep, via, fst∗, snd∗}
-use base.Fml.{Lft, GName, Share, Fml, ftrue, flft, feq, fsep}
+use base.Fml.{Lft, GName, Share, ftrue, flft, feq, fsep}
 use prog.Memory.{up, size, align}
 use prog.Align.{up-ge}
 use prog.Wp.{Env, Calls, Loops, WpFn, Tables}
@@ -14,13 +14,13 @@ use types.Logic.{Logic, sem}
 use contract.Monad.{fact, fact_use}
 use contract.Running.{tables, tables_of}
 use sound.WpLaws.{WpFn-mono}
-use types.Kit.{Item, mean, ‵, raw, later, await, group, ◌⊛◌, some, at_ret, ◌$◌, ◌∵◌, !, qed, by, move, keep, use1, use2, drop, split, join, pick, rewrite, fsplit, fsplit3, fjoin, feq_i, feq_l, suffices, frame, done}
+use types.Kit.{Item, mean, ‵, raw, later, await, group, ◌⊛◌, some, ◌$◌, ◌∵◌, !, qed, by, move, keep, use1, use2, drop, split, join, pick, rewrite, fsplit, fsplit3, fjoin, feq_i, feq_l, suffices, frame, done}
 use types.Mut.{open_ref}
-use types.Run.{size_lit, stop, fld, addr, of_opd, bin, returns, enter}
+use types.Run.{size_lit, stop, fld, addr, bin, returns, enter}
 use types.ByLocal.{alloc_all, pass_all, free_all, look_at, get, through, sets, env}
 use denote.Exit.{yes, no}
 use denote.RattleType.{RattleType, owns}
-use denote.Memory.{part_at, part_of, mem, shares}
+use denote.Memory.{part_at, mem, shares}
 use denote.Array.{Array}
 use denote.ArrayMemory.{Array-apart, Array-whole}
 use denote.Index.{place, place_is, others, takes, puts, row}

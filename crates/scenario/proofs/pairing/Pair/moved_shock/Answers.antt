@@ -1,4 +1,4 @@
-use Rattle.std.proofs.Common.{◌≡◌, ◌+◌, ◌≤◌, ◌∙◌, w64, SFits, rules}
+use Rattle.std.proofs.Common.{◌+◌, ◌≤◌, ◌∙◌, w64, SFits, rules}
 use borrow.Author.Tests.{true-leb}
 use Rattle.std.proofs.lemmas.Int.{to_z-of_z}
 use Rattle.scenario.specs.PairsLemmas.{moved_all}
