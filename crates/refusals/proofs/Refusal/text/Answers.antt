@@ -1,4 +1,4 @@
-use Rattle.std.proofs.Common.{sym, refl, ap}
+use Rattle.std.proofs.Common.{sym, ap}
 use Rattle.refusals.specs.Numbers.{text_of}
 use Rattle.refusals.proofs.Refusal.text.Goals as goal
 
