@@ -1,10 +1,9 @@
 -- One sheet of the eight changes.
-use Rattle.std.proofs.Common.{◌≡◌, ℕ, List, set, Ok, Err, Result, sym, refl, ap, subst, MatchResult}
+use Rattle.std.proofs.Common.{◌≡◌, ℕ, List, set, Ok, Err, Result, sym, ap, subst, MatchResult}
 use Rattle.refusals.specs.declared.Refusal.{Refusal}
-use Rattle.scenario.specs.declared.pairing.Pair.{Pair}
 use Rattle.sheets.specs.declared.kinds.Sheet.{Sheet}
 use Rattle.sheets.specs.Tables.{Holds}
-use Rattle.sheet_set.specs.Places.{Eight, sheets_of, Put, Filled}
+use Rattle.sheet_set.specs.Places.{Eight, sheets_of, Filled}
 
 -- the sheets m with y at place 0
 abbrev pub at_0 : Eight → Sheet → Eight

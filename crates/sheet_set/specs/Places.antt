@@ -1,5 +1,5 @@
 -- The eight places of a set of sheets, and what reading a file into it does. Assumes nothing.
-use Rattle.std.specs.Prelude.{◌≡◌, ℕ, ◌+◌, ◌<◌, ◌≤◌, List, [], ◌∷◌, set, Some, None, Ok, Err, Option, Result, MatchResult, slice_set}
+use Rattle.std.specs.Prelude.{◌≡◌, ℕ, ◌+◌, ◌<◌, ◌≤◌, List, [], ◌∷◌, Some, None, Ok, Err, Option, Result, MatchResult, slice_set}
 use Rattle.refusals.specs.declared.Refusal.{Refusal}
 use Rattle.scenario.specs.declared.pairing.Pair.{Pair}
 use Rattle.sheets.specs.declared.kinds.Sheet.{Sheet}

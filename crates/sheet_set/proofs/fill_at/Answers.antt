@@ -37,7 +37,7 @@ returns-in-6 c =
     let e : c.args.place ≡ 6 = omega arith in
     record { answer = c.fill-in-6.ensures.answer; holds = filled (at_6 c.args.sheets.now) c.args.sheets.now.second.second.first _ c.fill-in-6.result _ 6 c.args.place e (λ y. refl) c.fill-in-6.ensures.holds }
 
-pub returns-in-default : goal.returns-in-default
-returns-in-default c =
+pub returns-in_default : goal.returns-in_default
+returns-in_default c =
     let e : c.args.place ≡ 7 = omega arith in
-    record { answer = c.fill-in-default.ensures.answer; holds = filled (at_7 c.args.sheets.now) c.args.sheets.now.second.second.second _ c.fill-in-default.result _ 7 c.args.place e (λ y. refl) c.fill-in-default.ensures.holds }
+    record { answer = c.fill-in_default.ensures.answer; holds = filled (at_7 c.args.sheets.now) c.args.sheets.now.second.second.second _ c.fill-in_default.result _ 7 c.args.place e (λ y. refl) c.fill-in_default.ensures.holds }
