@@ -2,7 +2,7 @@
 use Rattle.std.proofs.Common.{◌≡◌, ℕ, Bool, true, false, cond, List, [], ◌∷◌, ◌++◌, take, ℤ, ◌≤ℤ◌, ◌<ℤ◌, fold, sym, refl, ap, ◌∙◌, arith}
 use lib.Signed.{lt_z}
 use Rattle.std.specs.Cmp.{IsStrictWeakOrder}
-use Rattle.std.specs.List.{AllByRecursion as All}
+use Rattle.std.specs.List.{AllByRecursion}
 use Rattle.std.proofs.lemmas.List.{take-map}
 use Rattle.std.proofs.lemmas.Int.{ints, by_lt_z}
 use Rattle.std.proofs.lemmas.Bool.{cond-true, cond-false, true≢false}
@@ -91,7 +91,7 @@ not_ahead x y e = by_lt_z y.amount x.amount (λ h. absurd (true≢false (sym (co
 is_behind : (x y : Deficit) → x.amount <ℤ y.amount → ahead x y ≡ false
 is_behind x y h = cond-false (lt_z y.amount x.amount) _ _ (lt_false x.amount y.amount h) ∙ cond-true (lt_z x.amount y.amount) _ _ (lt_true x.amount y.amount h)
 
-insert_first : (d : Deficit) (ys : List Deficit) → All (λ z. z.amount ≤ℤ d.amount) ys → amounts (insert ahead d ys) ≡ d.amount ∷ amounts ys
+insert_first : (d : Deficit) (ys : List Deficit) → AllByRecursion (λ z. z.amount ≤ℤ d.amount) ys → amounts (insert ahead d ys) ≡ d.amount ∷ amounts ys
 insert_first d [] a = refl
 insert_first d (z ∷ zs) a = at (insert_first d zs a.1) (ahead d z) refl
   where
@@ -101,7 +101,7 @@ insert_first d (z ∷ zs) a = at (insert_first d zs a.1) (ahead d z) refl
         let q = same z.amount d.amount a.0 (not_ahead d z e) in
         ap (λ l. z.amount ∷ l) more ∙ (λ i. q i ∷ sym q i ∷ amounts zs)
 
-all_below : (d y : Deficit) (ys : List Deficit) → y.amount ≤ℤ d.amount → All (λ z. ahead z y ≡ false) ys → All (λ z. z.amount ≤ℤ d.amount) ys
+all_below : (d y : Deficit) (ys : List Deficit) → y.amount ≤ℤ d.amount → AllByRecursion (λ z. ahead z y ≡ false) ys → AllByRecursion (λ z. z.amount ≤ℤ d.amount) ys
 all_below d y [] h a = tt
 all_below d y (z ∷ zs) h a = (chain z.amount y.amount d.amount (not_ahead z y a.0) h, all_below d y zs h a.1)
 

@@ -1,7 +1,7 @@
 -- Deficits that can be summed, and their sum as 64 bits hold it. Assumes nothing.
 use Rattle.std.proofs.Common.{◌≡◌, ℕ, zero, suc, ◌+◌, ◌*◌, ◌<◌, ◌≤◌, min, Bool, true, false, cond, ◌&&◌, leb, List, [], ◌∷◌, length, get_or, take, drop, ℤ, pos, ◌+ℤ◌, nat_abs, ◌≤ℤ◌, Some, None, sym, refl, ap, ◌∙◌, add-one, arith, take_all, w64, SFits, to_z, of_z}
 use lib.Signed.{le_z}
-use Rattle.std.specs.List.{AllByRecursion as All}
+use Rattle.std.specs.List.{AllByRecursion}
 use Rattle.std.proofs.ByRecursion.{All-get_or}
 use Rattle.std.proofs.lemmas.List.{length-map, drop_more}
 use Rattle.std.proofs.lemmas.Int.{ints}
@@ -32,15 +32,15 @@ fair_high x e = le_true x (pos most_amount) (and_parts (le_z (pos 0) x) (le_z x 
 pub fair_small : (x : ℤ) → fair x ≡ true → nat_abs x ≤ most_amount
 fair_small x e = omega (arith, ints, fair_low x e, fair_high x e)
 
-each_fair : (ds : List Deficit) → all_fair (amounts ds) ≡ true → All Fair ds
+each_fair : (ds : List Deficit) → all_fair (amounts ds) ≡ true → AllByRecursion Fair ds
 each_fair [] e = tt
 each_fair (d ∷ ds) e = let p = and_parts (fair d.amount) (all_fair (amounts ds)) e in (p.0, each_fair ds p.1)
 
-from_each : (ds : List Deficit) → All Fair ds → all_fair (amounts ds) ≡ true
+from_each : (ds : List Deficit) → AllByRecursion Fair ds → all_fair (amounts ds) ≡ true
 from_each [] a = refl
 from_each (d ∷ ds) a = and_from (fair d.amount) (all_fair (amounts ds)) a.0 (from_each ds a.1)
 
-pub none_negative : (ds : List Deficit) → All Fair ds → NoneNegative (amounts ds)
+pub none_negative : (ds : List Deficit) → AllByRecursion Fair ds → NoneNegative (amounts ds)
 none_negative [] a = tt
 none_negative (d ∷ ds) a = (fair_low d.amount a.0, none_negative ds a.1)
 
@@ -53,7 +53,7 @@ module _ (ds : List Deficit) (e : summable ds ≡ true) where
   pub summable_few : length ds ≤ most_deficits
   summable_few = leb-true (length ds) most_deficits (and_parts (leb (length ds) most_deficits) (all_fair (amounts ds)) e).0
 
-  pub summable_fair : All Fair ds
+  pub summable_fair : AllByRecursion Fair ds
   summable_fair = each_fair ds (and_parts (leb (length ds) most_deficits) (all_fair (amounts ds)) e).1
 
   -- those that are kept of them can be summed too

@@ -1,5 +1,5 @@
 -- The decimal digits of numbers, the last one at the end. Assumes nothing.
-use Rattle.std.proofs.Common.{◌≡◌, ℕ, zero, suc, ◌+◌, ◌/◌, ◌%◌, ◌^◌, ◌<◌, ◌≤◌, Bool, true, false, cond, List, [], ◌∷◌, ◌++◌, ℤ, pos, negsuc, nat_abs, decimal, sym, refl, ap, ◌∙◌, ⊎_elim, append_assoc, arith, w64, SFits, to_z, of_z}
+use Rattle.std.proofs.Common.{◌≡◌, ℕ, zero, suc, ◌+◌, ◌/◌, ◌%◌, ◌^◌, ◌<◌, ◌≤◌, Bool, false, cond, List, [], ◌∷◌, ◌++◌, ℤ, pos, negsuc, nat_abs, decimal, sym, refl, ap, ◌∙◌, ⊎_elim, append_assoc, arith, w64, SFits, to_z, of_z}
 use lib.Signed.{lt_z}
 use Rattle.std.specs.Fmt.{digit_glyph, digits_onto, digits, sign_text, signed_decimal}
 use Rattle.std.proofs.lemmas.Fmt.{decimal_digit}

@@ -1,9 +1,8 @@
 -- One margin more on a line. Assumes nothing.
-use Rattle.std.proofs.Common.{◌≡◌, ℕ, ◌+◌, ◌<◌, List, [], ◌∷◌, ◌++◌, length, get_or, take, ℤ, pos, codes, sym, refl, ap, ◌∙◌, append_assoc, append-nil, w64, SFits, to_z, of_z}
+use Rattle.std.proofs.Common.{◌≡◌, ℕ, ◌+◌, ◌<◌, List, [], ◌∷◌, ◌++◌, length, get_or, take, ℤ, codes, sym, ap, ◌∙◌, append_assoc, append-nil}
 use Rattle.std.specs.Fmt.{signed_decimal}
 use Rattle.std.proofs.lemmas.List.{take_more}
 use Rattle.lines.specs.Lined.{followed}
-use Rattle.lines.proofs.Decimals.{text_signed}
 use Rattle.lines.proofs.Room.{then, same_text}
 use Rattle.replies.specs.Statements.{margins_text}
 

@@ -9,33 +9,33 @@ use Rattle.figures.proofs.Chosen.{greatest_sum}
 use Rattle.deficits.proofs.Ranking.{kept_total}
 use Rattle.deficits.proofs.Summing.{now_summable, summable_fair, summable_kept, none_negative}
 use Rattle.deficits.proofs.pick_greatest.Goals as goal
-use Rattle.deficits.proofs.pick_greatest.Goals.{After-keep-greatest-count}
+use Rattle.deficits.proofs.pick_greatest.Goals.{After-keep_greatest-count}
 
-ok : (c : After-keep-greatest-count) → summable c.args.deficits.now ≡ true
-ok c = now_summable c.args.deficits.now (omega arith) c.if-not-are-fair.ensures
+ok : (c : After-keep_greatest-count) → summable c.args.deficits.now ≡ true
+ok c = now_summable c.args.deficits.now (omega arith) c.if-not-are_fair.ensures
 
-first : (c : After-keep-greatest-count) → take (c.keep-greatest-count.result - 0) c.keep-greatest-count.new.cells ≡ kept ahead (length c.args.cells.now) c.args.deficits.now
-first c = ap (λ k. take k c.keep-greatest-count.new.cells) (omega arith) ∙ c.keep-greatest-count.ensures.held
+first : (c : After-keep_greatest-count) → take (c.keep_greatest-count.result - 0) c.keep_greatest-count.new.cells ≡ kept ahead (length c.args.cells.now) c.args.deficits.now
+first c = ap (λ k. take k c.keep_greatest-count.new.cells) (omega arith) ∙ c.keep_greatest-count.ensures.held
 
-pub total-of-requires : goal.total-of-requires
-total-of-requires c =
-    let c' = (goal.at.total-of-requires c).After-keep-greatest-count in
+pub total_of-requires : goal.total_of-requires
+total_of-requires c =
+    let c' = (goal.at.total_of-requires c).After-keep_greatest-count in
     ap summable (first c') ∙ summable_kept c.args.deficits.now (ok c') (length c.args.cells.now)
 
 pub returns : goal.returns
 returns c =
-    let c' = (goal.at.returns c).After-keep-greatest-count in
+    let c' = (goal.at.returns c).After-keep_greatest-count in
     let ds = c.args.deficits.now in
     let n = length c.args.cells.now in
-    let k = c.keep-greatest-count.ensures in
-    let bits = to_z-of_z w64 c.total-of.result (record { sfits = c.total-of.type-inv }) in
-    let is : to_z w64 (of_z w64 c.total-of.result) ≡ total_greatest n (amounts ds) =
-    bits ∙ c.total-of.ensures.value ∙ ap (λ l. total (λ (x : ℤ). x) (amounts l)) (first c') ∙ kept_total n ds in
+    let k = c.keep_greatest-count.ensures in
+    let bits = to_z-of_z w64 c.total_of.result (record { sfits = c.total_of.type_inv }) in
+    let is : to_z w64 (of_z w64 c.total_of.result) ≡ total_greatest n (amounts ds) =
+    bits ∙ c.total_of.ensures.value ∙ ap (λ l. total (λ (x : ℤ). x) (amounts l)) (first c') ∙ kept_total n ds in
     record {
       value = (λ i. Some (record { count = k.count i; sum = is i })) ∙ sym (cond-true (summable ds) _ None (ok c'));
-      held = record { count = k.count; held = k.held; rest = k.rest; size = c.keep-greatest-count.auto.cells };
+      held = record { count = k.count; held = k.held; rest = k.rest; size = c.keep_greatest-count.auto.cells };
       greatest = k.greatest;
       only = k.only;
       sum = greatest_sum n (amounts ds) _ (none_negative ds (summable_fair ds (ok c'))) is;
-      small = rw bits c.total-of.ensures.small;
+      small = rw bits c.total_of.ensures.small;
     }

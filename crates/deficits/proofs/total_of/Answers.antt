@@ -2,8 +2,8 @@ use Rattle.std.proofs.Common.{pos, arith}
 use Rattle.deficits.proofs.Summing.{adds_fit, adds_next, adds_small, adds_all, summable_few}
 use Rattle.deficits.proofs.total_of.Goals as goal
 
-pub overflow-add-sum : goal.overflow-add-sum
-overflow-add-sum c =
+pub overflow_add-sum : goal.overflow_add-sum
+overflow_add-sum c =
     let l = c.loop-deficit in
     adds_fit c.args.deficits.now l.deficit-index record { amount = pos 0; client = 0 } _ c.requires c.loop-deficit-test.true l.invariant.0 l.invariant.1
 

@@ -5,4 +5,4 @@ use Rattle.lines.proofs.Line.+push_wide.Goals as goal
 
 pub returns-in-Err : goal.returns-in-Err
 returns-in-Err t c =
-    one_more (written c.args.self.now) (written c.push-wide.new.self) (written c.push-byte.new.self) c.args.number _ _ (omega (arith, c.in-Err.ensures)) (omega arith) (omega arith) (omega arith) c.push-wide.ensures c.push-byte.ensures
+    one_more (written c.args.self.now) (written c.push_wide.new.self) (written c.push_byte.new.self) c.args.number _ _ (omega (arith, c.in-Err.ensures)) (omega arith) (omega arith) (omega arith) c.push_wide.ensures c.push_byte.ensures

@@ -1,4 +1,4 @@
 use Rattle.lines.proofs.Line.+push_wide.Given as goal
 
-abbrev pub decreases-push-wide : goal.decreases-push-wide
-decreases-push-wide l = l.number
+abbrev pub decreases-push_wide : goal.decreases-push_wide
+decreases-push_wide l = l.number

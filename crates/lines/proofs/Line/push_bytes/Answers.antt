@@ -9,7 +9,7 @@ loop-byte-init c = followed_none c.args.self.now
 
 pub loop-byte-preserved : goal.loop-byte-preserved
 loop-byte-preserved c =
-    followed_more (written c.args.self.now) (written c.loop-byte.self) (written c.push-byte.new.self) c.args.bytes.now c.loop-byte.byte-index c.loop-byte-test.true c.loop-byte.invariant c.push-byte.ensures
+    followed_more (written c.args.self.now) (written c.loop-byte.self) (written c.push_byte.new.self) c.args.bytes.now c.loop-byte.byte-index c.loop-byte-test.true c.loop-byte.invariant c.push_byte.ensures
 
 pub returns : goal.returns
 returns c = c.loop-byte.invariant ∙ ap (followed (written c.args.self.now)) (take_all c.loop-byte.byte-index c.args.bytes.now c.loop-byte-test.false)

@@ -7,5 +7,5 @@ use Rattle.lines.proofs.Line.push_signed.Goals as goal
 
 pub returns : goal.returns
 returns c =
-    sign_first (written c.args.self.now) (written c.push-number.new.self) c.args.number _ c.unsigned-abs.result (to_z-of_z w64 c.args.number c.ranges.number) c.unsigned-abs.ensures.value
-    (then (written c.args.self.now) (written c.push-sign.new.self) (written c.push-number.new.self) _ _ c.push-sign.ensures c.push-number.ensures)
+    sign_first (written c.args.self.now) (written c.push_number.new.self) c.args.number _ c.unsigned_abs.result (to_z-of_z w64 c.args.number c.ranges.number) c.unsigned_abs.ensures.value
+    (then (written c.args.self.now) (written c.push_sign.new.self) (written c.push_number.new.self) _ _ c.push_sign.ensures c.push_number.ensures)

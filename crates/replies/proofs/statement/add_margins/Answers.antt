@@ -15,7 +15,7 @@ pub loop-margin-preserved : goal.loop-margin-preserved
 loop-margin-preserved c =
     let margin = get_or c.args.margins.now c.loop-margin.margin-index (pos 0) in
     let fits : SFits w64 margin = search rules in
-    margins_more _ _ _ c.args.margins.now c.loop-margin.margin-index (pos 0) c.loop-margin-test.true c.loop-margin.invariant (text_signed _ _ (codes " ") margin fits c.push-str-signed.ensures)
+    margins_more _ _ _ c.args.margins.now c.loop-margin.margin-index (pos 0) c.loop-margin-test.true c.loop-margin.invariant (text_signed _ _ (codes " ") margin fits c.push_str_signed.ensures)
 
 pub returns : goal.returns
 returns c =

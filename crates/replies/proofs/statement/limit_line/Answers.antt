@@ -8,5 +8,5 @@ use Rattle.replies.proofs.statement.limit_line.Goals as goal
 
 pub returns : goal.returns
 returns c =
-    then _ _ _ _ _ (text_signed _ _ (codes "limit ") c.args.limit c.ranges.limit c.push-str-signed.ensures)
-    (same_text _ _ _ _ (ap (λ (z : ℤ). violation_text (lt_z z (pos 0))) (to_z-of_z w64 c.args.limit c.ranges.limit)) c.add-violation.ensures)
+    then _ _ _ _ _ (text_signed _ _ (codes "limit ") c.args.limit c.ranges.limit c.push_str_signed.ensures)
+    (same_text _ _ _ _ (ap (λ (z : ℤ). violation_text (lt_z z (pos 0))) (to_z-of_z w64 c.args.limit c.ranges.limit)) c.add_violation.ensures)

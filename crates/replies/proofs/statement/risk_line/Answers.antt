@@ -3,4 +3,4 @@ use Rattle.lines.proofs.Decimals.{text_signed}
 use Rattle.replies.proofs.statement.risk_line.Goals as goal
 
 pub returns : goal.returns
-returns c = text_signed _ _ (codes "risk ") c.args.amount c.ranges.amount c.push-str-signed.ensures
+returns c = text_signed _ _ (codes "risk ") c.args.amount c.ranges.amount c.push_str_signed.ensures

@@ -5,7 +5,7 @@ use Rattle.replies.proofs.statement.utilisation_line.Goals as goal
 
 pub returns-in-Some : goal.returns-in-Some
 returns-in-Some c =
-    same_text _ _ _ _ (ap utilisation_text (sym c.in-Some.is)) (then _ _ _ _ _ c.push-str.ensures c.push-wide.ensures)
+    same_text _ _ _ _ (ap utilisation_text (sym c.in-Some.is)) (then _ _ _ _ _ c.push_str.ensures c.push_wide.ensures)
 
 pub returns-in-None : goal.returns-in-None
-returns-in-None c = same_text _ _ _ _ (ap utilisation_text (sym c.in-None.is)) c.push-str-in-None.ensures
+returns-in-None c = same_text _ _ _ _ (ap utilisation_text (sym c.in-None.is)) c.push_str-in-None.ensures
