@@ -1,5 +1,5 @@
 -- Sums and greatest values over the numbers below n. Assumes nothing.
-use Rattle.std.proofs.Common.{◌≡◌, ℕ, zero, suc, ◌+◌, ◌*◌, ◌<◌, ◌≤◌, Bool, true, false, cond, ℤ, pos, ◌+ℤ◌, nat_abs, ◌≤ℤ◌, sym, refl, ap, ◌∙◌, mul-suc, arith}
+use Rattle.std.proofs.Common.{◌≡◌, ℕ, zero, suc, ◌*◌, ◌<◌, ◌≤◌, Bool, true, false, cond, ℤ, ◌+ℤ◌, nat_abs, ◌≤ℤ◌, refl, mul-suc, arith}
 use native.Mathlib.Decide.{ℕ_discrete}
 use lib.Signed.{lt_z}
 use Rattle.std.specs.Int.{int_max}

@@ -5,7 +5,7 @@ use Rattle.std.proofs.lemmas.Int.{ints}
 use Rattle.std.proofs.lemmas.Bool.{cases_lt, cond_both}
 use Rattle.scenario.specs.Table.{ScenarioTable, Lawful}
 use Rattle.figures.specs.declared.counting.Counting.{Counting}
-use Rattle.figures.specs.declared.counting.Counting.TheVariants.{Together, Alone}
+use Rattle.figures.specs.declared.counting.Counting.TheVariants.{Together}
 use Rattle.figures.specs.Figures.{Position, lies_in, moves, loss_in, margin}
 use Rattle.figures.specs.Laws.{MarginsNotNegative}
 use Rattle.figures.specs.Losses.{losses_in, at, Holds}

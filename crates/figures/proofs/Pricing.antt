@@ -1,10 +1,10 @@
 -- Prices stay low, and whether every position has one. Assumes nothing.
-use Rattle.std.proofs.Common.{◌≡◌, ℕ, zero, suc, ◌+◌, ◌<◌, ◌≤◌, true, false, leb, List, [], ◌∷◌, length, get_or, take, set, replicate, Some, None, Option, sym, refl, ap, ◌∙◌, subst, inl, inr, add-one, arith, take_all}
+use Rattle.std.proofs.Common.{◌≡◌, ℕ, ◌<◌, ◌≤◌, true, leb, List, length, set, replicate, Some, None, Option, sym, subst, inl, inr, arith}
 use Rattle.std.proofs.lemmas.List.{get_or-set_same, get_or-set_other, get_or-replicate, get_or_past, length-replicate, length-map}
-use Rattle.std.proofs.lemmas.Bool.{cases_eq, cases_lt, and_from, and_parts, and_left, and_right, leb-true}
+use Rattle.std.proofs.lemmas.Bool.{cases_eq, cases_lt, and_parts, leb-true}
 use Rattle.figures.specs.declared.position.Position.{Position as Kept}
 use Rattle.figures.specs.declared.prices.Prices.{Prices}
-use Rattle.figures.specs.Markets.{has_price, all_priced, answerable}
+use Rattle.figures.specs.Markets.{all_priced, answerable}
 use Rattle.figures.specs.Positions.{position_of, positions_of}
 use Rattle.figures.specs.Priced.{priced}
 

@@ -1,5 +1,5 @@
 -- The utilisation that a value of the code means. Assumes nothing.
-use Rattle.std.specs.Prelude.{ℕ, ℤ, pos, negsuc, Some, None, Option}
+use Rattle.std.specs.Prelude.{ℤ, pos, negsuc, Some, None, Option}
 use Rattle.figures.specs.declared.utilisations.Utilisation.{Utilisation as Kept}
 use Rattle.figures.specs.declared.utilisations.Utilisation.TheVariants.{Percent, NoBacking}
 use Rattle.figures.specs.Figures.{Utilisation, percent, no_backing, utilisation}

@@ -1,10 +1,10 @@
 -- What is known of a file that no cause refuses.
-use Rattle.std.proofs.Common.{◌≡◌, ℕ, ◌+◌, ◌<◌, ◌≤◌, Bool, true, false, cond, not, ◌&&◌, eqb, leb, List, ℤ, pos, negsuc, nat_abs, is_some, Some, None, Option, sym, refl, ap, ◌∙◌, subst, arith}
+use Rattle.std.proofs.Common.{◌≡◌, ℕ, ◌+◌, ◌<◌, ◌≤◌, Bool, true, false, cond, not, leb, List, ℤ, pos, negsuc, nat_abs, is_some, Some, None, Option, sym, refl, ap, ◌∙◌, arith}
 use Rattle.std.proofs.lemmas.Bool.Decides.{nat_tests}
-use Rattle.std.proofs.lemmas.Bool.{false≢true, and_parts, leb-true, eq-eqb, not-false, cond-true, cond-false}
+use Rattle.std.proofs.lemmas.Bool.{false≢true, and_parts, leb-true, not-false}
 use Rattle.layout.specs.Fields.{kind, contracts, scenarios, factors, payoff, number, second, exposure, factor_shock, series_shock}
 use Rattle.inspection.specs.Tests.{every, within}
-use Rattle.inspection.specs.Causes.{wrong_length, wrong_kind, right_counts, wrong_area, right_numbers, right_record, factors_within, series_within, right_fields, unmoved_first, sheet_cause, accepted}
+use Rattle.inspection.specs.Causes.{wrong_kind, right_counts, right_numbers, right_record, factors_within, series_within, right_fields, unmoved_first, sheet_cause, accepted}
 use Rattle.inspection.proofs.Everies.{every_at}
 use Rattle.inspection.proofs.Withins.{within_is}
 

@@ -1,6 +1,5 @@
 -- Within a limit of zero, by the size of an amount.
-use Rattle.std.proofs.Common.{◌≡◌, ℕ, suc, ◌≤◌, Bool, true, false, not, ◌&&◌, leb, ℤ, pos, negsuc, neg_ℤ, nat_abs, sym, refl, arith}
-use lib.Signed.{lt_z}
+use Rattle.std.proofs.Common.{◌≡◌, ℕ, leb, ℤ, nat_abs, arith}
 use Rattle.std.proofs.lemmas.Int.{ints}
 use Rattle.std.proofs.lemmas.Bool.Decides.{nat_tests}
 use Rattle.inspection.specs.Tests.{within}

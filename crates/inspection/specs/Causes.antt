@@ -1,5 +1,5 @@
 -- What a sheet's file must hold, and why one is refused. Assumes nothing.
-use Rattle.std.specs.Prelude.{◌≡◌, ℕ, ◌+◌, ◌-◌, Bool, true, cond, not, ◌&&◌, ◌||◌, ltb, leb, List, length, is_some, Some, None, Option, ◌==◌, nat_eq, nat_le, nat_lt}
+use Rattle.std.specs.Prelude.{ℕ, ◌+◌, ◌-◌, Bool, true, cond, not, ◌&&◌, ◌||◌, ltb, leb, List, length, is_some, Some, None, Option, ◌==◌, nat_eq, nat_le, nat_lt}
 use Rattle.layout.specs.Fields.{kind, contracts, scenarios, factors, contract_area, scenario_area, stated_length, payoff, contract_bytes, scenario_bytes, number, second, exposure, factor_shock, series_shock}
 use Rattle.inspection.specs.Tests.{every, within, between}
 

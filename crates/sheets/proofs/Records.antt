@@ -1,10 +1,10 @@
 -- The bounds of the shocks of an accepted file.
-use Rattle.std.proofs.Common.{◌≡◌, ℕ, zero, suc, ◌+◌, ◌*◌, ◌/◌, ◌%◌, ◌<◌, ◌≤◌, Bool, true, false, cond, ◌&&◌, eqb, ltb, ◌⊎◌, List, ℤ, pos, negsuc, ◌+ℤ◌, ◌*ℤ◌, neg_ℤ, nat_abs, sym, refl, ap, ◌∙◌, subst, inl, inr, ⊎_elim, mul-le-mul, add-one, arith, w64, SFits, to_z, of_z}
+use Rattle.std.proofs.Common.{◌≡◌, ℕ, zero, suc, ◌+◌, ◌*◌, ◌/◌, ◌%◌, ◌<◌, ◌≤◌, cond, ◌&&◌, eqb, ltb, List, ℤ, pos, negsuc, ◌+ℤ◌, ◌*ℤ◌, neg_ℤ, nat_abs, sym, refl, ap, ◌∙◌, subst, add-one, arith, w64, SFits, to_z, of_z}
 use native.Mathlib.Numerals.{unary_clauses}
 use lib.IntN.{*ℤ-zero}
 use Rattle.std.proofs.lemmas.Nat.{mul-le}
 use Rattle.std.proofs.lemmas.Int.{ints, to_z-of_z}
-use Rattle.std.proofs.lemmas.Bool.{cond_both, cond-true, cond-false, eqb-true, eqb-false, ne_eqb, lt-ltb, and_from, and_parts, ltb-true, cases_eq}
+use Rattle.std.proofs.lemmas.Bool.{cond_both, cond-true, cond-false, eqb-true, eqb-false, ne_eqb, lt-ltb, and_from, and_parts, ltb-true}
 use Rattle.rounding.specs.Rounding.{parts, nearest}
 use Rattle.layout.specs.Fields.{kind, contracts, scenarios, factors, payoff, exposure, factor_shock, series_shock}
 use Rattle.inspection.specs.Causes.{wrong_kind}

@@ -1,7 +1,6 @@
 -- The table of decoded numbers is the table that the file means.
-use Rattle.std.proofs.Common.{◌≡◌, ℕ, ◌+◌, ◌<◌, Bool, true, false, cond, eqb, ltb, List, ℤ, pos, Some, None, Option, sym, refl, ap, ◌∙◌, ⊎_elim}
+use Rattle.std.proofs.Common.{◌≡◌, ℕ, ◌<◌, cond, eqb, ltb, List, ℤ, pos, Some, None, Option, sym, refl, ap, ◌∙◌, ⊎_elim}
 use Rattle.std.proofs.lemmas.Bool.{cond-true, cond-false, eq-eqb, ne_eqb, cases_lt, lt-ltb, le-ltb}
-use Rattle.scenario.specs.Table.{ScenarioTable}
 use Rattle.layout.specs.Fields.{kind, contracts, scenarios, second}
 use Rattle.sheets.specs.Sheets.{find, record_shock, sheet_table}
 use Rattle.sheets.specs.Decoded.{rows_table}

@@ -1,5 +1,5 @@
 -- The numbers that an accepted file is decoded into, and what a table of one subportfolio is made of. Assumes nothing.
-use Rattle.std.specs.Prelude.{◌≡◌, ℕ, ◌+◌, ◌*◌, ◌/◌, ◌%◌, ◌<◌, ◌≤◌, cond, ◌&&◌, List, ℤ, pos, Some, None, Option, ◌==◌, nat_lt, slice_index, slice_index_or, unsigned_abs}
+use Rattle.std.specs.Prelude.{◌≡◌, ℕ, ◌+◌, ◌*◌, ◌<◌, ◌≤◌, cond, List, ℤ, pos, Some, None, Option, ◌==◌, nat_lt, slice_index, slice_index_or, unsigned_abs}
 use Rattle.scenario.specs.Table.{ScenarioTable}
 
 -- the table of one subportfolio with n scenarios, where a contract has a record, and a record a multiplier and shocks

@@ -1,12 +1,12 @@
 -- A table of one subportfolio, made of records, is lawful where its numbers keep their bounds.
-use Rattle.std.specs.Prelude.{◌≡◌, ℕ, suc, ◌+◌, ◌*◌, ◌<◌, ◌≤◌, Bool, true, false, cond, List, length, ℤ, pos, negsuc, ◌≤ℤ◌, Some, None, Option, ◌==◌, ◌≢◌, nat_lt, unsigned_abs}
+use Rattle.std.specs.Prelude.{◌≡◌, ℕ, ◌<◌, ◌≤◌, false, cond, List, length, ℤ, pos, negsuc, ◌≤ℤ◌, Some, None, Option, ◌==◌, ◌≢◌, nat_lt, unsigned_abs}
 use Rattle.std.proofs.Math.Path.{refl, ap, subst}
-use Rattle.std.proofs.Common.{sym, ◌∙◌, add-zero}
+use Rattle.std.proofs.Common.{sym, add-zero}
 use native.Mathlib.Omega.{arith}
 use Rattle.std.proofs.lemmas.List.{get_or_past}
 use Rattle.std.proofs.lemmas.Int.{ints}
-use Rattle.std.proofs.lemmas.Bool.{cond_both, cond-true, cond-false, ne_eqb, le-ltb, true≢false}
-use Rattle.scenario.specs.Table.{ScenarioTable, Lawful}
+use Rattle.std.proofs.lemmas.Bool.{cond_both, cond-false, ne_eqb, le-ltb, true≢false}
+use Rattle.scenario.specs.Table.{Lawful}
 use Rattle.sheets.specs.Decoded.{rows_table, record_in, cell_in, Unmoved}
 use Rattle.sheets.specs.Sheets.{empty_table}
 

@@ -1,5 +1,5 @@
 -- The tables of the kinds of sheet are lawful.
-use Rattle.std.specs.Prelude.{◌≡◌, ℕ, ◌+◌, ◌*◌, ◌≤◌, cond, pos, ◌==◌, slice_index, unsigned_abs, refl}
+use Rattle.std.specs.Prelude.{◌+◌, ◌*◌, ◌≤◌, cond, pos, ◌==◌, slice_index, unsigned_abs}
 use Rattle.std.proofs.Common.{arith}
 use Rattle.std.proofs.lemmas.Bool.{cond_both, cond-false, ne_eqb}
 use Rattle.scenario.specs.Table.{Lawful}
@@ -8,7 +8,7 @@ use Rattle.sheets.specs.declared.kinds.SeriesSheet.{SeriesSheet}
 use Rattle.sheets.specs.declared.kinds.StrikeSheet.{StrikeSheet}
 use Rattle.sheets.specs.declared.kinds.Sheet.{Sheet}
 use Rattle.sheets.specs.declared.kinds.Sheet.TheVariants.{Empty, Factors, Series, Strikes}
-use Rattle.sheets.specs.Decoded.{rows_table, record_in, cell_in}
+use Rattle.sheets.specs.Decoded.{record_in, cell_in}
 use Rattle.sheets.specs.Tables.{factor_table, series_table, strike_table, table_of}
 use Rattle.sheets.specs.Lawfuls.{rows_lawful, records_known, cells_unmoved, empty_lawful}
 

@@ -2,9 +2,7 @@
 use Rattle.std.specs.Prelude.{◌≡◌, ℕ, ◌+◌, cond, List, pos, Some, None, Option, ◌==◌, slice_index}
 use Rattle.scenario.specs.Table.{ScenarioTable}
 use Rattle.inspection.specs.declared.Kind.{Kind}
-use Rattle.inspection.specs.declared.Kind.TheVariants as Kind
 use Rattle.layout.specs.Fields.{kind, contracts}
-use Rattle.sheets.specs.declared.kinds.EmptySheet.{EmptySheet}
 use Rattle.sheets.specs.declared.kinds.FactorSheet.{FactorSheet}
 use Rattle.sheets.specs.declared.kinds.SeriesSheet.{SeriesSheet}
 use Rattle.sheets.specs.declared.kinds.StrikeSheet.{StrikeSheet}

@@ -6,14 +6,14 @@ use Rattle.figures.proofs.Placing.{together_there, loses_none}
 use Rattle.figures.proofs.Summing.{added_same, added_zero}
 use Rattle.figures.proofs.margins.count_in.Goals as goal
 
-pub returns-then-lies-in : goal.returns-then-lies-in
-returns-then-lies-in g c =
+pub returns-then-lies_in : goal.returns-then-lies_in
+returns-then-lies_in g c =
     let m = g.M.ScenarioModel.table c.args.model.now in
     let t = position_of c.args.position.now in
-    added_same c.args.row.now c.add-losses.new.row c.args.scenarios _ _ (most_lost Together) (together_there m t (λ _. 0) c.args.k (sym c.lies-in.ensures ∙ c.if-lies-in.true)) c.add-losses.ensures
+    added_same c.args.row.now c.add_losses.new.row c.args.scenarios _ _ (most_lost Together) (together_there m t (λ _. 0) c.args.k (sym c.lies_in.ensures ∙ c.if-lies_in.true)) c.add_losses.ensures
 
-pub returns-else-lies-in : goal.returns-else-lies-in
-returns-else-lies-in g c =
+pub returns-else-lies_in : goal.returns-else-lies_in
+returns-else-lies_in g c =
     let m = g.M.ScenarioModel.table c.args.model.now in
     let t = position_of c.args.position.now in
-    added_zero c.args.row.now c.args.scenarios _ (most_lost Together) (loses_none m t (λ _. 0) Together c.args.k (sym c.lies-in.ensures ∙ c.if-lies-in.false))
+    added_zero c.args.row.now c.args.scenarios _ (most_lost Together) (loses_none m t (λ _. 0) Together c.args.k (sym c.lies_in.ensures ∙ c.if-lies_in.false))

@@ -1,4 +1,4 @@
-use Rattle.std.proofs.Common.{◌≡◌, ℕ, Bool, false, eqb, Some, None, Option, ap}
+use Rattle.std.proofs.Common.{ℕ, false, eqb, Some, None, Option, ap}
 use Rattle.figures.proofs.margins.lies_in.Goals as goal
 
 pub returns-in-Some : goal.returns-in-Some

@@ -1,4 +1,4 @@
-use Rattle.std.proofs.Common.{◌≡◌, ◌≤◌, nat_abs, sym, ap, ◌∙◌, arith}
+use Rattle.std.proofs.Common.{◌≤◌, nat_abs, ◌∙◌, arith}
 use Rattle.std.proofs.lemmas.Int.{ints}
 use Rattle.figures.proofs.Sizes.{shock_within, product_of, kept64}
 use Rattle.figures.proofs.marks.moves.Given as given

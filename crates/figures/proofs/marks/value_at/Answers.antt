@@ -2,8 +2,8 @@ use Rattle.std.proofs.Common.{◌+ℤ◌, ◌∙◌, arith}
 use Rattle.figures.proofs.Sizes.{both_kept, both_fit, sum_small}
 use Rattle.figures.proofs.marks.value_at.Goals as goal
 
-pub overflow-add-result : goal.overflow-add-result
-overflow-add-result g c = both_fit c.mark_at.result c.moves.result (omega (arith, c.mark_at.ensures.small)) (omega (arith, c.moves.ensures.small))
+pub overflow_add-result : goal.overflow_add-result
+overflow_add-result g c = both_fit c.mark_at.result c.moves.result (omega (arith, c.mark_at.ensures.small)) (omega (arith, c.moves.ensures.small))
 
 pub returns : goal.returns
 returns g c =

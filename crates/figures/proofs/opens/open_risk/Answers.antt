@@ -8,8 +8,8 @@ use Rattle.figures.proofs.Pricing.{few_of}
 use Rattle.figures.proofs.Sizes.{kept64}
 use Rattle.figures.proofs.opens.open_risk.Goals as goal
 
-pub open-risk-of-requires : goal.open-risk-of-requires
-open-risk-of-requires g c =
+pub open_risk_of-requires : goal.open_risk_of-requires
+open_risk_of-requires g c =
     few_of c.args.prices.now c.args.positions.now (sym c.answerable.ensures ∙ c.if-not-answerable.false)
 
 pub returns : goal.returns
@@ -17,9 +17,9 @@ returns g c =
     let m = g.M.ScenarioModel.table c.args.model.now in
     let law = g.met.M.ScenarioModel.lawful c.args.model.now in
     let f = losers_in m (market c.args.prices.now) (positions_of c.args.positions.now) in
-    let e = kept64 c.open-risk-of.result (omega (arith, c.open-risk-of.ensures.small)) in
+    let e = kept64 c.open_risk_of.result (omega (arith, c.open_risk_of.ensures.small)) in
     record {
       value = search rules;
-      worst = subst (Worst m f (λ x. x)) (sym (e ∙ c.open-risk-of.ensures.value)) (worst_is m law f (λ x. x) (λ x y l. l));
+      worst = subst (Worst m f (λ x. x)) (sym (e ∙ c.open_risk_of.ensures.value)) (worst_is m law f (λ x. x) (λ x y l. l));
       small = search rules;
     }

@@ -1,4 +1,4 @@
-use Rattle.std.proofs.Common.{◌≡◌, ℕ, ◌<◌, ◌≤◌, length, ℤ, ◌+ℤ◌, nat_abs, sym, ap, ◌∙◌, subst, arith}
+use Rattle.std.proofs.Common.{◌≡◌, ℕ, ◌<◌, ◌≤◌, length, ℤ, ◌+ℤ◌, nat_abs, ap, ◌∙◌, subst, arith}
 use Rattle.figures.specs.Figures.{moves}
 use Rattle.figures.specs.Losses.{lost, most_lost, at, Added}
 use Rattle.figures.specs.Positions.{position_of}
@@ -16,9 +16,9 @@ held g c =
 loss : (g : given.Over) (c : After-loses g) → nat_abs c.loses.result ≤ 4000000000000000000
 loss g c = omega (arith, c.loses.ensures.small, most_lost_small c.args.how)
 
-pub overflow-add-row : goal.overflow-add-row
-overflow-add-row g c =
-    let d = (goal.at.overflow-add-row g c).After-loses in
+pub overflow_add-row : goal.overflow_add-row
+overflow_add-row g c =
+    let d = (goal.at.overflow_add-row g c).After-loses in
     both_fit (at c.loop-scenario.row c.loop-scenario.scenario) c.loses.result (held g d) (loss g d)
 
 pub loop-scenario-init : goal.loop-scenario-init

@@ -10,7 +10,7 @@ pub gained-mark-requires : goal.gained-mark-requires
 gained-mark-requires g c =
     let law = g.met.M.ScenarioModel.lawful c.args.model.now in (
       law.multiplier_small c.args.position.now.contract c.in-Some.k c.in-Some.multiplier (sym c.in-Some.ensures),
-      c.ticks-of.ensures.small,
+      c.ticks_of.ensures.small,
     )
 
 pub bounds-rows-k : goal.bounds-rows-k
@@ -33,8 +33,8 @@ returns-in-Some g c =
     record {
       value = v;
       small = search rules;
-      losses = added_row m t (market c.args.prices.now) how rows k c.in-Some.multiplier c.add-losses.new.row z (most_lost how) (sym c.in-Some.ensures) (omega (arith, law.few_subportfolios, placed, long)) v
-          (subst (λ (n : ℕ). Added (get_or rows k []) c.add-losses.new.row n (λ s. lost how z (moves m s t)) (most_lost how)) c.scenarios.ensures c.add-losses.ensures);
+      losses = added_row m t (market c.args.prices.now) how rows k c.in-Some.multiplier c.add_losses.new.row z (most_lost how) (sym c.in-Some.ensures) (omega (arith, law.few_subportfolios, placed, long)) v
+          (subst (λ (n : ℕ). Added (get_or rows k []) c.add_losses.new.row n (λ s. lost how z (moves m s t)) (most_lost how)) c.scenarios.ensures c.add_losses.ensures);
     }
 
 pub returns-in-None : goal.returns-in-None

@@ -1,10 +1,9 @@
-use Rattle.std.proofs.Common.{◌≡◌, ℕ, ◌*◌, ◌≤◌, [], length, get_or, take, sym, refl, ap, ◌∙◌, mul-le-mul_left, arith, take_all}
+use Rattle.std.proofs.Common.{◌*◌, ◌≤◌, [], get_or, refl, ◌∙◌, mul-le-mul_left, arith}
 use Rattle.std.proofs.lemmas.Int.{ints}
 use Rattle.figures.specs.Figures.{mark}
 use Rattle.figures.specs.Losses.{most_lost, loses_in, losses_in}
 use Rattle.figures.specs.Markets.{market}
 use Rattle.figures.specs.Positions.{position_of, positions_of}
-use Rattle.figures.specs.Sums.{total}
 use Rattle.figures.proofs.Adding.{total_next, total_all}
 use Rattle.figures.proofs.Sizes.{added, added_small, added_fits, most_more, most_within}
 use Rattle.figures.proofs.Summing.{holds_blank, holds_more, holds_same}
@@ -24,8 +23,8 @@ count-gained-requires g c =
     let l = c.loop-position in
     λ k s. omega (arith, (l.invariant.3 k).small s, most_within c.args.how l.position-index (omega (arith, l.invariant.0, c.requires)))
 
-pub overflow-add-gained : goal.overflow-add-gained
-overflow-add-gained g c =
+pub overflow_add-gained : goal.overflow_add-gained
+overflow_add-gained g c =
     let l = c.loop-position in
     let few : l.position-index ≤ 1024 = omega (arith, l.invariant.0, c.requires) in
     added_fits c.count-gained.result l.gained-is l.invariant.1 c.count-gained.ensures.small (omega arith) (omega arith)

@@ -11,13 +11,13 @@ pub returns-else-f-ge1 : goal.returns-else-f-ge1
 unfolding right_counts
 returns-else-f-ge1 c = grind (arith, nat_tests)
 
-pub returns-then-s-le-MOST-SCENARIOS-2 : goal.returns-then-s-le-MOST-SCENARIOS-2
+pub returns-then-s-le-MOST_SCENARIOS-2 : goal.returns-then-s-le-MOST_SCENARIOS-2
 unfolding right_counts
-returns-then-s-le-MOST-SCENARIOS-2 c = grind (arith, nat_tests)
+returns-then-s-le-MOST_SCENARIOS-2 c = grind (arith, nat_tests)
 
-pub returns-else-s-le-MOST-SCENARIOS-2 : goal.returns-else-s-le-MOST-SCENARIOS-2
+pub returns-else-s-le-MOST_SCENARIOS-2 : goal.returns-else-s-le-MOST_SCENARIOS-2
 unfolding right_counts
-returns-else-s-le-MOST-SCENARIOS-2 c = grind (arith, nat_tests)
+returns-else-s-le-MOST_SCENARIOS-2 c = grind (arith, nat_tests)
 
 pub returns-then-s-n : goal.returns-then-s-n
 unfolding right_counts

@@ -13,9 +13,9 @@ pub loop-f-preserved : goal.loop-f-preserved
 unfolding factors_within
 loop-f-preserved c = every_more _ _ c.loop-f.invariant (cc)
 
-pub returns-then-not-is-factor-within : goal.returns-then-not-is-factor-within
+pub returns-then-not-is_factor_within : goal.returns-then-not-is_factor_within
 unfolding factors_within
-returns-then-not-is-factor-within c = every_miss (λ f. within c.args.limit (factor_shock c.args.file.now c.args.s f)) c.loop-f.f _ (omega arith) (cc)
+returns-then-not-is_factor_within c = every_miss (λ f. within c.args.limit (factor_shock c.args.file.now c.args.s f)) c.loop-f.f _ (omega arith) (cc)
 
 pub returns : goal.returns
 unfolding factors_within

@@ -9,8 +9,8 @@ loop-j-init c = every_none _
 pub loop-j-preserved : goal.loop-j-preserved
 loop-j-preserved c = every_more _ _ c.loop-j.invariant (cc)
 
-pub returns-then-not-is-right-record : goal.returns-then-not-is-right-record
-returns-then-not-is-right-record c = every_miss (right_record c.args.file.now) c.loop-j.j _ (omega arith) (cc)
+pub returns-then-not-is_right_record : goal.returns-then-not-is_right_record
+returns-then-not-is_right_record c = every_miss (right_record c.args.file.now) c.loop-j.j _ (omega arith) (cc)
 
 pub returns : goal.returns
 returns c = every_all _ _ _ c.loop-j.invariant (omega arith) (omega arith)

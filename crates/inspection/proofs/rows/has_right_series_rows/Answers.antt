@@ -9,8 +9,8 @@ loop-j-init c = every_none _
 pub loop-j-preserved : goal.loop-j-preserved
 loop-j-preserved c = every_more _ _ c.loop-j.invariant (cc)
 
-pub returns-then-not-has-series-within : goal.returns-then-not-has-series-within
-returns-then-not-has-series-within c = every_miss (series_within c.args.file.now 100000000) c.loop-j.j _ (omega arith) (cc)
+pub returns-then-not-has_series_within : goal.returns-then-not-has_series_within
+returns-then-not-has_series_within c = every_miss (series_within c.args.file.now 100000000) c.loop-j.j _ (omega arith) (cc)
 
 pub returns : goal.returns
 returns c = every_all _ _ _ c.loop-j.invariant (omega arith) (omega arith)

@@ -1,5 +1,5 @@
 use Rattle.std.proofs.Common.{◌≡◌, true}
-use Rattle.inspection.specs.Tests.{every, within}
+use Rattle.inspection.specs.Tests.{every}
 use Rattle.inspection.specs.Causes.{series_within}
 use Rattle.inspection.proofs.rows.has_right_series_rows.Given as goal
 

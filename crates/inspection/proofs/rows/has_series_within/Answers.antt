@@ -13,9 +13,9 @@ pub loop-s-preserved : goal.loop-s-preserved
 unfolding series_within
 loop-s-preserved c = every_more _ _ c.loop-s.invariant (cc)
 
-pub returns-then-not-is-series-within : goal.returns-then-not-is-series-within
+pub returns-then-not-is_series_within : goal.returns-then-not-is_series_within
 unfolding series_within
-returns-then-not-is-series-within c = every_miss (λ s. within c.args.limit (series_shock c.args.file.now c.args.j s)) c.loop-s.s _ (omega arith) (cc)
+returns-then-not-is_series_within c = every_miss (λ s. within c.args.limit (series_shock c.args.file.now c.args.j s)) c.loop-s.s _ (omega arith) (cc)
 
 pub returns : goal.returns
 unfolding series_within

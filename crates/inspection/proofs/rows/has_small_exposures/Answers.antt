@@ -10,8 +10,8 @@ loop-f-init c = every_none _
 pub loop-f-preserved : goal.loop-f-preserved
 loop-f-preserved c = every_more _ _ c.loop-f.invariant (cc)
 
-pub returns-then-not-is-small-exposure : goal.returns-then-not-is-small-exposure
-returns-then-not-is-small-exposure c = every_miss (λ f. within 12500000 (exposure c.args.file.now c.args.j f)) c.loop-f.f _ (omega arith) (cc)
+pub returns-then-not-is_small_exposure : goal.returns-then-not-is_small_exposure
+returns-then-not-is_small_exposure c = every_miss (λ f. within 12500000 (exposure c.args.file.now c.args.j f)) c.loop-f.f _ (omega arith) (cc)
 
 pub returns : goal.returns
 returns c = every_all _ _ _ c.loop-f.invariant (omega arith) (omega arith)

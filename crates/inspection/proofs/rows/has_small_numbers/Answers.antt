@@ -9,8 +9,8 @@ loop-j-init c = every_none _
 pub loop-j-preserved : goal.loop-j-preserved
 loop-j-preserved c = every_more _ _ c.loop-j.invariant (cc)
 
-pub returns-then-not-is-small-number : goal.returns-then-not-is-small-number
-returns-then-not-is-small-number c = every_miss (λ j. leb (number c.args.file.now j) 255) c.loop-j.j _ (omega arith) (cc)
+pub returns-then-not-is_small_number : goal.returns-then-not-is_small_number
+returns-then-not-is_small_number c = every_miss (λ j. leb (number c.args.file.now j) 255) c.loop-j.j _ (omega arith) (cc)
 
 pub returns : goal.returns
 returns c = every_all _ _ _ c.loop-j.invariant (omega arith) (omega arith)

@@ -10,8 +10,8 @@ loop-j-init c = every_none _
 pub loop-j-preserved : goal.loop-j-preserved
 loop-j-preserved c = every_more _ _ c.loop-j.invariant (cc)
 
-pub returns-then-not-is-series-within : goal.returns-then-not-is-series-within
-returns-then-not-is-series-within c = every_miss (λ j. within 0 (series_shock c.args.file.now j 0)) c.loop-j.j _ (omega arith) (cc)
+pub returns-then-not-is_series_within : goal.returns-then-not-is_series_within
+returns-then-not-is_series_within c = every_miss (λ j. within 0 (series_shock c.args.file.now j 0)) c.loop-j.j _ (omega arith) (cc)
 
 pub returns : goal.returns
 returns c = every_all _ _ _ c.loop-j.invariant (omega arith) (omega arith)

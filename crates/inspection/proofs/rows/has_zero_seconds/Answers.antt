@@ -9,8 +9,8 @@ loop-j-init c = every_none _
 pub loop-j-preserved : goal.loop-j-preserved
 loop-j-preserved c = every_more _ _ c.loop-j.invariant (cc)
 
-pub returns-then-not-is-zero-second : goal.returns-then-not-is-zero-second
-returns-then-not-is-zero-second c = every_miss (λ j. eqb (second c.args.file.now j) 0) c.loop-j.j _ (omega arith) (cc)
+pub returns-then-not-is_zero_second : goal.returns-then-not-is_zero_second
+returns-then-not-is_zero_second c = every_miss (λ j. eqb (second c.args.file.now j) 0) c.loop-j.j _ (omega arith) (cc)
 
 pub returns : goal.returns
 returns c = every_all _ _ _ c.loop-j.invariant (omega arith) (omega arith)

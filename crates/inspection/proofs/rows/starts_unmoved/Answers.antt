@@ -11,6 +11,6 @@ pub returns-in-2 : goal.returns-in-2
 unfolding unmoved_first
 returns-in-2 c = grind (arith, nat_tests)
 
-pub returns-in-default : goal.returns-in-default
+pub returns-in_default : goal.returns-in_default
 unfolding unmoved_first
-returns-in-default c = grind (arith, nat_tests)
+returns-in_default c = grind (arith, nat_tests)

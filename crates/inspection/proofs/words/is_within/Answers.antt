@@ -1,4 +1,4 @@
-use Rattle.std.proofs.Common.{◌≡◌, nat_abs, ap, ◌∙◌, w32, SFits, rules}
+use Rattle.std.proofs.Common.{◌≡◌, nat_abs, w32, SFits}
 use Rattle.std.proofs.lemmas.Int.{to_z-of_z}
 use Rattle.inspection.proofs.Withins.{within_is}
 use Rattle.inspection.proofs.words.is_within.Goals as goal
@@ -6,5 +6,5 @@ use Rattle.inspection.proofs.words.is_within.Goals as goal
 pub returns : goal.returns
 returns c =
     let f : SFits w32 c.args.amount = c.ranges.amount in
-    let e : c.unsigned-abs.result ≡ nat_abs c.args.amount = simp to_z-of_z at c.unsigned-abs.ensures.value in
+    let e : c.unsigned_abs.result ≡ nat_abs c.args.amount = simp to_z-of_z at c.unsigned_abs.ensures.value in
     rw e (within_is c.args.limit c.args.amount)

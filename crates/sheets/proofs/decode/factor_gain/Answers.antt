@@ -17,8 +17,8 @@ small c =
     let P : ℤ → Type 0 = λ z. nat_abs z ≤ 100000000 in
     subst P (sym (rounds c)) (nearest_small (moved_by_factors c.args.file.now c.args.j c.args.s) (total_within _ (passes _ c.requires.passed) c.requires.factored _ _ c.requires.known c.requires.stated))
 
-pub overflow-cast-result : goal.overflow-cast-result
-overflow-cast-result c =
+pub overflow_cast-result : goal.overflow_cast-result
+overflow_cast-result c =
     let b = small c in
     let fr : SFits w64 c.rounded.result = search rules in
     rw (to_z-of_z _ _ fr) (omega (arith, ints))

@@ -1,4 +1,4 @@
-use Rattle.std.proofs.Common.{◌≡◌, ◌*ℤ◌, arith, w32, w64, SFits, rules}
+use Rattle.std.proofs.Common.{◌*ℤ◌, arith, w32, w64, SFits}
 use borrow.Author.Numbers.{signed_product}
 use Rattle.std.proofs.lemmas.Int.{to_z-of_z, ints}
 use Rattle.sheets.proofs.decode.product.Goals as goal

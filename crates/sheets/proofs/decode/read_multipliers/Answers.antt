@@ -3,12 +3,12 @@ use Rattle.inspection.proofs.Accepted.{passes}
 use Rattle.sheets.proofs.Tabled.{multipliers_are, small_multipliers}
 use Rattle.sheets.proofs.decode.read_multipliers.Goals as goal
 
-pub invariant-of-result : goal.invariant-of-result
-invariant-of-result c =
-    let long : length c.write-multipliers.new.out ≡ 64 = omega arith in
-    (small_multipliers _ (passes _ c.requires.passed) _ long c.write-multipliers.ensures c.requires.factored, tt)
+pub invariant_of-result : goal.invariant_of-result
+invariant_of-result c =
+    let long : length c.write_multipliers.new.out ≡ 64 = omega arith in
+    record { small = small_multipliers _ (passes _ c.requires.passed) _ long c.write_multipliers.ensures c.requires.factored }
 
 pub returns : goal.returns
 returns c =
-    let long : length c.write-multipliers.new.out ≡ 64 = omega arith in
-    multipliers_are _ (passes _ c.requires.passed) _ long c.write-multipliers.ensures
+    let long : length c.write_multipliers.new.out ≡ 64 = omega arith in
+    multipliers_are _ (passes _ c.requires.passed) _ long c.write_multipliers.ensures

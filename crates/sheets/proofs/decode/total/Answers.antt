@@ -1,4 +1,4 @@
-use Rattle.std.proofs.Common.{◌≡◌, sym, ◌∙◌, arith, rules}
+use Rattle.std.proofs.Common.{◌≡◌, sym, arith}
 use Rattle.inspection.proofs.Accepted.{passes, few_factors}
 use Rattle.layout.specs.Fields.{factors}
 use Rattle.sheets.specs.Sheets.{moved_by_factors}

@@ -4,4 +4,4 @@ use Rattle.sheets.proofs.Fills.{fill_more}
 use Rattle.sheets.proofs.decode.write_multipliers.Goals as goal
 
 pub loop-j-preserved : goal.loop-j-preserved
-loop-j-preserved c = fill_more (multiplier_cell c.args.file.now) c.loop-j.out c.loop-j.j 0 c.slot-at.result c.slot-at.ensures (omega arith) c.loop-j.invariant
+loop-j-preserved c = fill_more (multiplier_cell c.args.file.now) c.loop-j.out c.loop-j.j 0 c.slot_at.result c.slot_at.ensures (omega arith) c.loop-j.invariant

@@ -5,4 +5,4 @@ use Rattle.sheets.proofs.Fills.{fill_more}
 use Rattle.sheets.proofs.decode.write_records.Goals as goal
 
 pub loop-c-preserved : goal.loop-c-preserved
-loop-c-preserved c = fill_more (λ k. find c.args.file.now k (contracts c.args.file.now)) c.loop-c.out c.loop-c.c None c.find-record.result c.find-record.ensures (omega arith) c.loop-c.invariant
+loop-c-preserved c = fill_more (λ k. find c.args.file.now k (contracts c.args.file.now)) c.loop-c.out c.loop-c.c None c.find_record.result c.find_record.ensures (omega arith) c.loop-c.invariant

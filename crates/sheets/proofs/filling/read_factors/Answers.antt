@@ -7,9 +7,9 @@ pub returns : goal.returns
 returns c =
     record {
       means =
-          same_table c.args.file.now (record_in c.read-index.result.records) c.read-shocks.result.scenarios (λ j. get_or c.read-multipliers.result.cells j 0) (cell_in c.read-shocks.result.cells)
-          c.read-index.ensures.records c.read-shocks.ensures.scenarios
-          (λ j l. c.read-multipliers.ensures j l ∙ sym (factor_times c.args.file.now c.requires.factored j))
-          c.read-shocks.ensures.cells;
-      counted = c.read-index.ensures.count;
+          same_table c.args.file.now (record_in c.read_index.result.records) c.read_shocks.result.scenarios (λ j. get_or c.read_multipliers.result.cells j 0) (cell_in c.read_shocks.result.cells)
+          c.read_index.ensures.records c.read_shocks.ensures.scenarios
+          (λ j l. c.read_multipliers.ensures j l ∙ sym (factor_times c.args.file.now c.requires.factored j))
+          c.read_shocks.ensures.cells;
+      counted = c.read_index.ensures.count;
     }

@@ -8,9 +8,9 @@ returns c =
     let k = c.requires.listed in
     record {
       means =
-          same_table c.args.file.now (record_in c.read-index.result.records) c.read-shocks.result.scenarios (λ j. 0) (cell_in c.read-shocks.result.cells)
-          c.read-index.ensures.records c.read-shocks.ensures.scenarios
+          same_table c.args.file.now (record_in c.read_index.result.records) c.read_shocks.result.scenarios (λ j. 0) (cell_in c.read_shocks.result.cells)
+          c.read_index.ensures.records c.read_shocks.ensures.scenarios
           (λ j l. sym (other_times c.args.file.now (λ e. omega arith) j))
-          c.read-shocks.ensures.cells;
-      counted = c.read-index.ensures.count;
+          c.read_shocks.ensures.cells;
+      counted = c.read_index.ensures.count;
     }
