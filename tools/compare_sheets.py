@@ -1,7 +1,7 @@
 #!/usr/bin/env python3
 """Compares the program `limits` with tools/read_sheets.py on random sheets, whole and damaged. Not part of the gate.
 
-    rt check limits
+    (cd crates/limits && rt run < /dev/null)
     python3 tools/compare_sheets.py [SEED [SHEETS [TABLES]]]
 
 Of SHEETS files the verdicts are compared, and of the first TABLES accepted ones every contract's line.
@@ -18,7 +18,7 @@ from pathlib import Path
 from make_sheets import factors, series, strikes
 from read_sheets import Refused, read
 
-PROGRAM = Path(__file__).resolve().parent.parent / "target" / "bin" / "limits"
+PROGRAM = Path(__file__).resolve().parent.parent / "crates" / "limits" / "out" / "limits"
 UNKNOWN = "refused 10 unknown trader, client, trade, holder or contract"
 
 

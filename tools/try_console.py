@@ -1,7 +1,7 @@
 #!/usr/bin/env python3
 """Talks to the built program over pipes, line by line, and compares each answer with that of tools/console_answers.py.
 
-    python3 tools/try_console.py target/bin/limits
+    python3 tools/try_console.py crates/limits/out/limits
 
 It shows what the check's own run cannot: that each answer comes before the next line is sent, what unreadable lines
 are answered, and with which status the program ends.

@@ -1,4 +1,5 @@
 //! What a line of the console asks.
+#![tactic(auto)]
 
 ghost use Rattle.std.specs.Prelude.{◌≡◌, ◌∷◌, ◌==◌, slice_index};
 ghost use Rattle.console.specs.Words.{words, only};

@@ -2,7 +2,7 @@
 use Rattle.std.proofs.Common.{◌≡◌, ℕ, zero, suc, ◌+◌, ◌≤◌, min, Bool, true, false, cond, ◌⊎◌, List, [], ◌∷◌, ◌++◌, map, length, get_or, take, set, ℤ, pos, ◌+ℤ◌, ◌-ℤ◌, nat_abs, ◌≤ℤ◌, sym, refl, ap, ◌∙◌, inl, inr, arith}
 use lib.Signed.{lt_z}
 use Rattle.std.specs.Int.{int_max}
-use Rattle.std.specs.List.{AllByRecursion as All}
+use Rattle.std.specs.List.{AllByRecursion}
 use Rattle.std.proofs.ByRecursion.{All-set}
 use Rattle.std.proofs.lemmas.List.{length-set, length-take, map-set, set-get_or, take_all, take-map}
 use Rattle.std.proofs.lemmas.Int.{ints, clamps}
@@ -80,7 +80,7 @@ same_descending (x ∷ xs) n = same_placed x (descending xs) n ∙ same_cons x (
 -- ---- a list that falls, to 0 at the least
 
 abbrev Under : ℤ → List ℤ → Type 0
-Under m xs = All (λ x. x ≤ℤ m) xs
+Under m xs = AllByRecursion (λ x. x ≤ℤ m) xs
 
 abbrev Falls : List ℤ → Type 0
 Falls [] = Unit {0}

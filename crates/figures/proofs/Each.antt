@@ -1,6 +1,6 @@
 -- A loop that looks at one element after the other, whether each passes a test. Assumes nothing.
 use Rattle.std.proofs.Common.{◌≡◌, ℕ, zero, suc, ◌+◌, ◌<◌, ◌≤◌, Bool, true, false, List, [], ◌∷◌, map, length, get_or, take, sym, refl, ap, ◌∙◌, add-one, arith, take_all}
-use Rattle.std.specs.List.{AllByRecursion as All}
+use Rattle.std.specs.List.{AllByRecursion}
 use Rattle.std.proofs.lemmas.Bool.{and_from, and_parts, and_left, and_right}
 use Rattle.figures.specs.Every.{every}
 
@@ -29,6 +29,6 @@ module _ {A B : Type 0} (g : A → B) (p : B → Bool) where
   pub every_done : (xs : List A) (i : ℕ) → length xs ≤ i → every p (map g (take i xs)) ≡ true → every p (map g xs) ≡ true
   every_done xs i l a = ap (λ ys. every p (map g ys)) (sym (take_all i xs l)) ∙ a
 
-  pub every_all : (xs : List A) → every p (map g xs) ≡ true → All (λ x. p (g x) ≡ true) xs
+  pub every_all : (xs : List A) → every p (map g xs) ≡ true → AllByRecursion (λ x. p (g x) ≡ true) xs
   every_all [] e = tt
   every_all (x ∷ xs) e = let b = and_parts (p (g x)) (every p (map g xs)) e in (b.0, every_all xs b.1)

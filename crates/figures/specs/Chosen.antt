@@ -1,6 +1,6 @@
 -- Choices of places in a list of amounts, and the laws of the sum of the n greatest. Assumes nothing.
 use Rattle.std.specs.Prelude.{◌≡◌, ℕ, suc, ◌≤◌, Bool, true, false, List, [], ◌∷◌, length, ℤ, pos, ◌+ℤ◌, ◌≤ℤ◌, slice_index_or, slice_set}
-use Rattle.std.specs.List.{AllByRecursion as All}
+use Rattle.std.specs.List.{AllByRecursion}
 use Rattle.figures.specs.Sums.{total_greatest}
 
 -- The sum over the chosen places: place k is chosen where `true` stands at k, and a place past the end counts nothing.
@@ -26,7 +26,7 @@ pub record GreatestSum (n : ℕ) (xs : List ℤ) (r : ℤ) : Type 0 where
   pub reached : Reached n xs r
 
 abbrev pub NoneNegative : List ℤ → Type 0
-NoneNegative xs = All (λ x. pos 0 ≤ℤ x) xs
+NoneNegative xs = AllByRecursion (λ x. pos 0 ≤ℤ x) xs
 
 -- the list with d added at a place; past the end nothing is added
 abbrev pub raised : List ℤ → ℕ → ℤ → List ℤ

@@ -1,9 +1,9 @@
 -- What is kept are the greatest of the offers; as many others never are; and the order of the offers does not matter. Assumes nothing.
 use Rattle.std.proofs.Common.{◌≡◌, ℕ, zero, suc, ◌<◌, Bool, true, false, cond, List, [], ◌∷◌, ◌++◌, length, get_or, take, drop, set, fold, sym, refl, ap, ◌∙◌, subst, ⊎_elim, arith}
 use Rattle.std.specs.Cmp.{IsStrictWeakOrder}
-use Rattle.std.specs.List.{swap, AllByRecursion as All}
+use Rattle.std.specs.List.{swap, AllByRecursion}
 use Rattle.std.specs.List.Sorted.{IsPermutation}
-use Rattle.std.proofs.ByRecursion.{All-take, All-drop, All-weaker}
+use Rattle.std.proofs.ByRecursion.{All-take, All-drop}
 use Rattle.std.proofs.lemmas.List.{append-nil, take-append-drop, take_at, length-set, get_or-set_same, get_or-set_other}
 use Rattle.std.proofs.lemmas.List.Sorted.{IsPermutation-refl, IsPermutation-cons, IsPermutation-swap, IsPermutation-trans, IsPermutation-keeps}
 use Rattle.std.proofs.lemmas.Bool.{true≢false, cases_eq}
@@ -13,11 +13,11 @@ use Rattle.keeper.specs.Greatest.{Falling, Greatest, OnlyGreatest, AnyOrder}
 use Rattle.keeper.proofs.Kept.{all_insert, length_insert, length_ranked, length_kept, take_min}
 
 module _ {A : Type 0} where
-  all_both : (P Q : A → Type 0) (l : List A) → All P l → All Q l → All (λ x. P x × Q x) l
+  all_both : (P Q : A → Type 0) (l : List A) → AllByRecursion P l → AllByRecursion Q l → AllByRecursion (λ x. P x × Q x) l
   all_both P Q [] p q = tt
   all_both P Q (x ∷ l) p q = ((p.0, q.0), all_both P Q l p.1 q.1)
 
-  all_unit : (l : List A) → All (λ _. Unit {0}) l
+  all_unit : (l : List A) → AllByRecursion (λ _. Unit {0}) l
   all_unit [] = tt
   all_unit (x ∷ l) = (tt, all_unit l)
 
@@ -63,17 +63,17 @@ module _ {A : Type 0} where
     falling_take (suc n) (x ∷ l) d = (All-take (λ y. b y x ≡ false) n l d.0, falling_take n l d.1)
 
     -- none behind outranks one of the first n
-    falling_beaten : (n : ℕ) (l : List A) → Falling b l → All (λ y. All (λ x. b y x ≡ false) (take n l)) (drop n l)
+    falling_beaten : (n : ℕ) (l : List A) → Falling b l → AllByRecursion (λ y. AllByRecursion (λ x. b y x ≡ false) (take n l)) (drop n l)
     falling_beaten zero l d = all_unit l
     falling_beaten (suc n) [] d = tt
-    falling_beaten (suc n) (z ∷ l) d = all_both (λ y. b y z ≡ false) (λ y. All (λ x. b y x ≡ false) (take n l)) (drop n l) (All-drop (λ y. b y z ≡ false) n l d.0) (falling_beaten n l d.1)
+    falling_beaten (suc n) (z ∷ l) d = all_both (λ y. b y z ≡ false) (λ y. AllByRecursion (λ x. b y x ≡ false) (take n l)) (drop n l) (All-drop (λ y. b y z ≡ false) n l d.0) (falling_beaten n l d.1)
 
-    insert_behind : (x : A) (hs l : List A) → All (λ h. b x h ≡ false) hs → insert b x (hs ++ l) ≡ hs ++ insert b x l
+    insert_behind : (x : A) (hs l : List A) → AllByRecursion (λ h. b x h ≡ false) hs → insert b x (hs ++ l) ≡ hs ++ insert b x l
     insert_behind x [] l a = refl
     insert_behind x (h ∷ hs) l a = ap (λ t. cond t (x ∷ h ∷ hs ++ l) (h ∷ insert b x (hs ++ l))) a.0 ∙ ap (λ t. h ∷ t) (insert_behind x hs l a.1)
 
     -- records that outrank none of hs come to stand behind hs
-    folded_behind : (hs l ys : List A) → All (λ y. All (λ x. b y x ≡ false) hs) ys → fold (λ t x. insert b x t) (hs ++ l) ys ≡ hs ++ fold (λ t x. insert b x t) l ys
+    folded_behind : (hs l ys : List A) → AllByRecursion (λ y. AllByRecursion (λ x. b y x ≡ false) hs) ys → fold (λ t x. insert b x t) (hs ++ l) ys ≡ hs ++ fold (λ t x. insert b x t) l ys
     folded_behind hs l [] a = refl
     folded_behind hs l (y ∷ ys) a = ap (λ t. fold (λ t x. insert b x t) t ys) (insert_behind y hs l a.0) ∙ folded_behind hs (insert b y l) ys a.1
 
@@ -84,7 +84,7 @@ module _ {A : Type 0} where
 
   module _ (b : A → A → Bool) (o : IsStrictWeakOrder b) where
     -- ---- the order that insertion makes
-    all_chain : (x y : A) (l : List A) → b y x ≡ false → All (λ z. b z y ≡ false) l → All (λ z. b z x ≡ false) l
+    all_chain : (x y : A) (l : List A) → b y x ≡ false → AllByRecursion (λ z. b z y ≡ false) l → AllByRecursion (λ z. b z x ≡ false) l
     all_chain x y [] h a = tt
     all_chain x y (z ∷ l) h a = (o.chain z y x a.0 h, all_chain x y l h a.1)
 

@@ -1,7 +1,7 @@
 -- Laws of `insert`, `ranked` and `kept` under any order, and the three steps of a caller's loop over offers: `keeping_none` before the first
 -- offer, `keeping-more` after each, `keeping-done` once the keeper has given its cells back. Assumes nothing.
-use Rattle.std.proofs.Common.{◌≡◌, ℕ, zero, suc, ◌+◌, ◌-◌, ◌<◌, ◌≤◌, min, Bool, true, false, cond, List, [], ◌∷◌, ◌++◌, length, get_or, take, drop, fold, sym, refl, ap, ◌∙◌, arith}
-use Rattle.std.specs.List.{AllByRecursion as All}
+use Rattle.std.proofs.Common.{◌≡◌, ℕ, zero, suc, ◌+◌, ◌-◌, ◌<◌, ◌≤◌, min, Bool, true, false, cond, List, [], ◌∷◌, ◌++◌, length, take, drop, fold, sym, refl, ap, ◌∙◌, arith}
+use Rattle.std.specs.List.{AllByRecursion}
 use Rattle.std.proofs.ByRecursion.{All-take}
 use Rattle.std.proofs.lemmas.List.{take-take, drop-drop, length_push, length-take, get_or-take, same_lists}
 use Rattle.std.proofs.lemmas.List.Sums.{fold_push}
@@ -28,9 +28,9 @@ module _ {A : Type 0} where
     length_insert x [] = refl
     length_insert x (y ∷ l) = grind (arith, length_insert x l)
 
-    pub all_insert : (P : A → Type 0) (x : A) (l : List A) → P x → All P l → All P (insert b x l)
+    pub all_insert : (P : A → Type 0) (x : A) (l : List A) → P x → AllByRecursion P l → AllByRecursion P (insert b x l)
     all_insert P x [] p a = (p, tt)
-    all_insert P x (y ∷ l) p a = elim (b x y) as (λ t. All P (cond t (x ∷ y ∷ l) (y ∷ insert b x l))) [ true ↦ (p, a) | false ↦ (a.0, all_insert P x l p a.1) ]
+    all_insert P x (y ∷ l) p a = elim (b x y) as (λ t. AllByRecursion P (cond t (x ∷ y ∷ l) (y ∷ insert b x l))) [ true ↦ (p, a) | false ↦ (a.0, all_insert P x l p a.1) ]
 
     -- what has fallen out does not come back
     pub take_insert : (n : ℕ) (x : A) (l : List A) → take n (insert b x (take n l)) ≡ take n (insert b x l)
@@ -43,7 +43,7 @@ module _ {A : Type 0} where
         ]
 
     -- ---- one insertion after the other
-    all_folded : (P : A → Type 0) (xs l : List A) → All P l → All P xs → All P (fold (λ t x. insert b x t) l xs)
+    all_folded : (P : A → Type 0) (xs l : List A) → AllByRecursion P l → AllByRecursion P xs → AllByRecursion P (fold (λ t x. insert b x t) l xs)
     all_folded P [] l a h = a
     all_folded P (x ∷ xs) l a h = all_folded P xs (insert b x l) (all_insert P x l h.0 a) h.1
 
@@ -58,10 +58,10 @@ module _ {A : Type 0} where
     length_ranked xs = omega (arith, length_folded xs [])
 
     -- what holds of each record that was offered holds of each that is ranked, and of each that is kept
-    pub all_ranked : (P : A → Type 0) (xs : List A) → All P xs → All P (ranked b xs)
+    pub all_ranked : (P : A → Type 0) (xs : List A) → AllByRecursion P xs → AllByRecursion P (ranked b xs)
     all_ranked P xs h = all_folded P xs [] tt h
 
-    pub all_kept : (P : A → Type 0) (n : ℕ) (xs : List A) → All P xs → All P (kept b n xs)
+    pub all_kept : (P : A → Type 0) (n : ℕ) (xs : List A) → AllByRecursion P xs → AllByRecursion P (kept b n xs)
     all_kept P n xs h = All-take P n (ranked b xs) (all_ranked P xs h)
 
     pub length_kept : (n : ℕ) (xs : List A) → length (kept b n xs) ≡ min n (length xs)

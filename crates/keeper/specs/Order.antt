@@ -1,4 +1,4 @@
--- The order of records: `before x y` says that x stands strictly ahead of y. `Ranks before`, of std, says that any two records compare: of two
+-- The order of records: `before x y` says that x stands strictly ahead of y. `IsStrictWeakOrder before`, of std, says that any two records compare: of two
 -- at most one is before the other, and where x is not before y and y is not before z, x is not before z. Assumes nothing.
 use Rattle.std.specs.Prelude.{◌≡◌, Bool, false}
 

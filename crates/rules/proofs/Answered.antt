@@ -1,5 +1,5 @@
 -- What an answered call tells of the run that it belongs to. Assumes nothing.
-use Rattle.std.proofs.Common.{◌≡◌, ℕ, Bool, true, false, cond, Some, None, Option, sym, refl, ap, ◌∙◌}
+use Rattle.std.proofs.Common.{◌≡◌, ℕ, Bool, true, cond, Some, None, Option, sym, refl, ap, ◌∙◌}
 use Rattle.scenario.specs.Table.{ScenarioTable}
 use Rattle.rules.specs.Ledger.{Ledger}
 use Rattle.rules.specs.Causes.{Call, trader, client, carry, price, deposit, opening, trade, specify, cancel, withdraw, settle, put_back, cash, window, statement, cause, entered, absent}

@@ -2,7 +2,7 @@
 use Rattle.std.proofs.Common.{◌≡◌, ℕ, zero, suc, ◌+◌, Bool, true, false, cond, not, ◌&&◌, ◌||◌, ltb, ◌⊎◌, List, [], ◌∷◌, ◌++◌, map, length, get_or, set, ℤ, pos, ◌+ℤ◌, neg_ℤ, ◌≤ℤ◌, None, refl, ap, ◌∙◌, inl, inr, arith}
 use lib.Signed.{lt_z}
 use Rattle.std.proofs.lemmas.Int.{ints}
-use Rattle.std.proofs.lemmas.Bool.{not_true, not-false, and_parts, or_parts}
+use Rattle.std.proofs.lemmas.Bool.{not-true, not-false, and_parts, or_parts}
 use Rattle.scenario.specs.Table.{ScenarioTable}
 use Rattle.rules.specs.Bounds.{most_traders, most_defaults, most_amount}
 use Rattle.rules.specs.Ledger.{Holder, of_client, of_trader, of_member, Slip, Trader, Client, Ledger, no_slip, no_trader, no_client, trader_of, client_of, collateral_in, collateral_of, holders_trader, more, more_own, more_favour, moved, empty_ledger, same_holder, struck, is_standing}
@@ -123,7 +123,7 @@ lowered l k a s eh ea z x le f =
 
 amount_up : (a : ℤ) → not (is_amount a) ≡ false → pos 0 ≤ℤ a
 amount_up a e =
-    let p : lt_z a (pos 1) ≡ false = not_true (lt_z a (pos 1)) (and_parts (not (lt_z a (pos 1))) (not (lt_z (pos most_amount) a)) (not-false (is_amount a) e)).0 in
+    let p : lt_z a (pos 1) ≡ false = not-true (lt_z a (pos 1)) (and_parts (not (lt_z a (pos 1))) (not (lt_z (pos most_amount) a)) (not-false (is_amount a) e)).0 in
     omega (arith, ints)
 
 -- ---- lists in which no collateral changes
@@ -159,8 +159,8 @@ limit_within : (a n : ℤ) → not (within (pos 0) (pos most_amount) a && within
 limit_within a n e =
     let p = and_parts (within (pos 0) (pos most_amount) a) (within (pos 1) (pos most_defaults) n) (not-false (within (pos 0) (pos most_amount) a && within (pos 1) (pos most_defaults) n) e) in
     let q = and_parts (not (lt_z a (pos 0))) (not (lt_z (pos most_amount) a)) p.0 in
-    let low : lt_z a (pos 0) ≡ false = not_true (lt_z a (pos 0)) q.0 in
-    let high : lt_z (pos most_amount) a ≡ false = not_true (lt_z (pos most_amount) a) q.1 in
+    let low : lt_z a (pos 0) ≡ false = not-true (lt_z a (pos 0)) q.0 in
+    let high : lt_z (pos most_amount) a ≡ false = not-true (lt_z (pos most_amount) a) q.1 in
     (omega (arith, ints), omega (arith, ints))
 
 pub funded_entered : (m : ScenarioTable) (l : Ledger) (x : Call) → cause m l x ≡ None → FundsKept l → FundsKept (entered m l x)

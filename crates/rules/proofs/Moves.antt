@@ -4,7 +4,7 @@ use Rattle.std.proofs.lemmas.Int.{ints}
 use Rattle.std.proofs.lemmas.Bool.{ltb-true, not-false}
 use Rattle.scenario.specs.Table.{ScenarioTable}
 use Rattle.figures.specs.Figures.{need}
-use Rattle.rules.specs.Ledger.{Holder, of_client, of_trader, of_member, Slip, carried, Trader, Client, Ledger, no_client, no_trader, client_of, market, with_traders, with_clients, more, more_own, more_favour, moved, struck}
+use Rattle.rules.specs.Ledger.{Holder, of_client, of_trader, of_member, carried, Trader, Client, Ledger, no_client, no_trader, client_of, market, with_traders, with_clients, more, more_own, more_favour, moved, struck}
 use Rattle.rules.specs.Limits.{need_of, held}
 use Rattle.rules.specs.Causes.{Call, trader, client, carry, price, deposit, opening, trade, specify, cancel, withdraw, settle, put_back, cash, window, statement, entered, new_trader, new_client, new_trade, next_slip, with_slips, with_trade, with_cash, opened, no_such_holder}
 use Rattle.rules.proofs.Places.{field_set, changes, change_map, change_push, change_twice}

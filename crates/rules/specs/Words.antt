@@ -1,5 +1,5 @@
 -- That no ruled day reaches beyond the word. Assumes nothing.
-use Rattle.std.specs.Prelude.{◌≡◌, List, pos, neg_ℤ, ◌≤ℤ◌, Some, ◌≢◌}
+use Rattle.std.specs.Prelude.{List, pos, neg_ℤ, ◌≤ℤ◌, Some, ◌≢◌}
 use Rattle.scenario.specs.Table.{ScenarioTable, Lawful}
 use Rattle.rules.specs.Bounds.{farthest}
 use Rattle.rules.specs.Ledger.{Ledger, empty_ledger}

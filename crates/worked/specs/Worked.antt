@@ -1,10 +1,10 @@
 -- Worked examples of the field, as facts about the definitions. Money is in centavos. Assumes nothing.
-use Rattle.std.specs.Prelude.{◌≡◌, ℕ, List, [], ◌∷◌, ℤ, pos, negsuc, neg_ℤ, None}
+use Rattle.std.specs.Prelude.{◌≡◌, ℕ, List, [], ◌∷◌, pos, negsuc, neg_ℤ, None}
 use Rattle.layout.specs.Bytes.{i32_at}
 use Rattle.inspection.specs.Causes.{sheet_cause}
 use Rattle.sheets.specs.Sheets.{sheet_table}
 use Rattle.figures.specs.Sums.{total_greatest}
-use Rattle.figures.specs.Figures.{Position, mark, need, open_risk, Utilisation, percent, no_backing, utilisation}
+use Rattle.figures.specs.Figures.{Position, mark, need, open_risk, percent, no_backing, utilisation}
 
 -- a sheet of factors: contract 7 with multiplier 2,500 and exposure 1 to one factor; its shocks are 0, 5,000, -5,000 and 4,999 ten-thousandths
 abbrev pub ties : List ℕ

@@ -5,4 +5,4 @@ use Rattle.console.proofs.is_comment.Goals as goal
 
 pub returns : goal.returns
 returns c =
-    same_from_decides c.starts-with.result (eqb (get_or c.args.line.now 0 0) 35) (starts_char 35 c.args.line.now c.starts-with.result c.starts-with.ensures.cases (lit< tt) (lit< tt)) (Decides-eqb _ 35)
+    same_from_decides c.starts_with.result (eqb (get_or c.args.line.now 0 0) 35) (starts_char 35 c.args.line.now c.starts_with.result c.starts_with.ensures.cases (lit< tt) (lit< tt)) (Decides-eqb _ 35)

@@ -1,4 +1,4 @@
-use Rattle.std.proofs.Common.{◌≡◌, ◌+◌, List, [], ◌∷◌, ◌++◌, length, take, sym, refl, ap, ◌∙◌, subst, arith, take_all, rules}
+use Rattle.std.proofs.Common.{◌≡◌, ◌+◌, List, [], ◌∷◌, ◌++◌, take, sym, refl, ap, ◌∙◌, subst, arith, take_all, rules}
 use Rattle.std.proofs.lemmas.List.{take_more}
 use Rattle.keeper.specs.Kept.{Keeping}
 use Rattle.keeper.proofs.Kept.{keeping_none, keeping_more, keeping_done}

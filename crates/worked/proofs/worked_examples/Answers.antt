@@ -1,5 +1,4 @@
 use Rattle.std.proofs.Common.{refl}
-use Rattle.rounding.specs.Rounding.{nearest}
 use Rattle.layout.specs.Bytes.{u16_at, u32_at, i32_at}
 use Rattle.layout.specs.Fields.{record_bytes, contract_bytes, scenario_bytes, number, second, exposure, factor_shock, series_shock}
 use Rattle.inspection.specs.Tests.{every, within}

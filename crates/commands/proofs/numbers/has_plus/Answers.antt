@@ -5,4 +5,4 @@ use Rattle.commands.proofs.numbers.has_plus.Goals as goal
 
 pub returns : goal.returns
 returns c =
-    same_from_decides c.starts-with.result (eqb (get_or c.args.word.now 0 0) 43) (starts_char 43 c.args.word.now c.starts-with.result c.starts-with.ensures.cases (lit< tt) (lit< tt)) (Decides-eqb _ 43)
+    same_from_decides c.starts_with.result (eqb (get_or c.args.word.now 0 0) 43) (starts_char 43 c.args.word.now c.starts_with.result c.starts_with.ensures.cases (lit< tt) (lit< tt)) (Decides-eqb _ 43)

@@ -6,7 +6,7 @@ use Rattle.console.proofs.words.skip_spaces.Goals as goal
 pub returns : goal.returns
 unfolding unspaced
 returns c =
-    let is : c.split-run.result.1.now ≡ unspaced c.args.line.now = c.split-run.ensures.back in
+    let is : c.split_run.result.1.now ≡ unspaced c.args.line.now = c.split_run.ensures.back in
     record {
       value = is;
       words = ap words is ∙ words_unspaced c.args.line.now;
