@@ -11,4 +11,4 @@ loop-scenario-init g c = sym (append-nil _)
 pub loop-scenario-preserved : goal.loop-scenario-preserved
 loop-scenario-preserved g c =
     let fits : SFits w64 c.shock.result = search rules in
-    shocks_more _ _ _ _ _ _ _ _ c.in-ok-add-shock.ensures c.loop-scenario.invariant (to_z-of_z w64 c.shock.result fits) c.shock.ensures
+    shocks_more _ _ _ _ _ _ _ _ c.in_ok-add_shock.ensures c.loop-scenario.invariant (to_z-of_z w64 c.shock.result fits) c.shock.ensures
