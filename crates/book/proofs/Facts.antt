@@ -1,21 +1,18 @@
 -- What every book keeps, by the types of its rows. Assumes nothing.
-use Rattle.std.proofs.Common.{◌≡◌, ℕ, zero, suc, ◌≤◌, List, [], ◌∷◌, map, length, get_or, ℤ, pos, ◌+ℤ◌, neg_ℤ, nat_abs, ◌≤ℤ◌, None, sym, refl, ap, ◌∙◌, subst, arith}
+use Rattle.std.proofs.Common.{◌≡◌, ℕ, zero, suc, ◌≤◌, List, [], ◌∷◌, map, length, get_or, ℤ, pos, ◌+ℤ◌, nat_abs, ◌≤ℤ◌, None, sym, subst, arith}
 use Rattle.std.proofs.lemmas.List.{length-map, length-take}
 use Rattle.std.proofs.lemmas.Int.{ints}
 use Rattle.cells.specs.Listed.{listed}
 use Rattle.figures.specs.declared.position.Position.{Position}
 use Rattle.scenario.specs.Table.{ScenarioTable}
-use Rattle.rules.specs.Bounds.{most_amount, most_quantity, most_price}
-use Rattle.rules.specs.Ledger.{Holder, of_client, of_trader, of_member, Slip, Trade, Trader, Client, no_slip, no_trader, no_client, no_trade, collateral_in}
+use Rattle.rules.specs.Bounds.{most_amount, most_quantity}
+use Rattle.rules.specs.Ledger.{Holder, of_client, of_trader, of_member, Slip, Trader, Client, no_slip, no_trader, no_client, no_trade, collateral_in}
 use Rattle.rules.specs.Causes.{Call, entered, cause, amounts_of}
 use Rattle.rules.specs.Sound.{Upto, Near, Small}
 use Rattle.rules.proofs.Funds.{FundsKept, funded_entered}
 use Rattle.rules.proofs.Bounded.{BoundsKept}
 use Rattle.book.specs.declared.books.Book.{Book}
-use Rattle.book.specs.declared.clients.Client.{Client as ClientRow}
 use Rattle.book.specs.declared.funds.Fund.{Fund}
-use Rattle.book.specs.declared.stubs.Stub.{Stub}
-use Rattle.book.specs.declared.traders.Trader.{Trader as TraderRow}
 use Rattle.book.specs.declared.trades.standing.TradeCell.{TradeCell}
 use Rattle.book.specs.declared.trades.standing.TradeCell.TheVariants.{Empty, Unspecified, Specified, Carried}
 use Rattle.book.specs.Means.{trader_in, client_in, slip_in, trade_in}

@@ -14,6 +14,7 @@ pub mod reading;
 
 /// The book of a day: traders, clients, trades, market prices, the slips that stand, how many slips were made, and whether the settlement window has passed.
 /// A holder never has more than 10^15 centavos, its standing slips counted in.
+#[derive(Clone, Copy)]
 pub struct Book {
     /// The traders, numbered from 0.
     pub traders: Rows<Trader, 16>,
@@ -31,5 +32,3 @@ pub struct Book {
     pub passed: bool,
     ghost capped: { (h : Holder) → pledged traders clients slips h ≤ℤ pos 1000000000000000 },
 }
-
-impl Copy for Book {}

@@ -17,5 +17,5 @@ returns c =
     let x = c.index-all-i.result in
     let l : i < length (cells_in t) = omega (arith, length_cells t) in
     let e : x ≡ get_or (cells_in t) i Empty =
-    c.index-all-i.is ∙ ap (λ (v : List TradeCell). get_or v i x) c.as-slice-all.ensures.0 ∙ get_or_default t.cells.at i x Empty (omega (arith, t.long, t.within)) ∙ sym (cell_at t i Empty c.if-i-self.false) in
+    c.index-all-i.is ∙ ap (λ (v : List TradeCell). get_or v i x) c.as_slice-all.ensures.0 ∙ get_or_default t.cells.at i x Empty (omega (arith, t.long, t.within)) ∙ sym (cell_at t i Empty c.if-i-self.false) in
     (l, e, ap is_filled e ∙ filled_at (cells_in t) i Empty l t.filled)
