@@ -1,11 +1,12 @@
 -- What a word asks, by how many numbers follow it. Assumes nothing.
-use Rattle.std.proofs.Common.{◌≡◌, ℕ, ◌-◌, ◌<◌, ◌≤◌, List, [], ◌∷◌, length, get_or, take, drop, ℤ, pos, Some, None, codes, sym, refl, ap, ◌∙◌, arith, take_all}
-use Rattle.console.proofs.Verbs.{passed_over}
+use Rattle.std.proofs.Common.{◌≡◌, ℕ, false, ◌-◌, ◌<◌, List, [], ◌∷◌, length, get_or, take, drop, ℤ, pos, Some, None, codes, sym, refl, arith, take_all}
+use Rattle.std.specs.Str.{bytes_eq}
+use Rattle.std.proofs.lemmas.Bool.{cond-false}
 use Rattle.tables.specs.Questions.{greatest, of_positions, of_two, of_list, of_few, asked}
 
 -- a word that asks about no list
-pub asked_few : (w : List ℕ) (xs : List ℤ) → (w ≡ codes "greatest" → ⊥) → asked w xs ≡ of_few w xs
-asked_few w xs h = passed_over w (codes "greatest") _ _ h
+pub asked_few : (w : List ℕ) (xs : List ℤ) → bytes_eq w (codes "greatest") ≡ false → asked w xs ≡ of_few w xs
+asked_few w xs e = cond-false (bytes_eq w (codes "greatest")) _ _ e
 
 pub few_none : (w : List ℕ) (xs : List ℤ) → length xs ≡ 0 → of_few w xs ≡ of_positions w
 few_none w [] e = refl

@@ -1,5 +1,5 @@
 -- Amounts that are taken over as deficits. Assumes nothing.
-use Rattle.std.proofs.Common.{◌≡◌, ℕ, ◌+◌, ◌<◌, false, ◌&&◌, leb, List, [], ◌∷◌, ◌++◌, map, length, get_or, take, set, ℤ, pos, negsuc, nat_abs, sym, refl, ap, ◌∙◌}
+use Rattle.std.proofs.Common.{◌≡◌, ℕ, ◌+◌, ◌<◌, false, ◌&&◌, leb, List, [], ◌∷◌, ◌++◌, length, get_or, take, set, ℤ, pos, negsuc, nat_abs, sym, ap, ◌∙◌}
 use lib.Signed.{lt_z}
 use Rattle.std.proofs.lemmas.List.{take_more, take_more_set, map-append, length-map}
 use Rattle.std.proofs.lemmas.Bool.{true≢false}

@@ -1,5 +1,5 @@
 -- The sum of the greatest of some amounts, where it can be worked out. Assumes nothing.
-use Rattle.std.specs.Prelude.{ℕ, Bool, ◌&&◌, List, length, ℤ, pos, negsuc, Some, None, Option, nat_le}
+use Rattle.std.specs.Prelude.{Bool, ◌&&◌, List, length, ℤ, pos, negsuc, None, Option, nat_le}
 use Rattle.figures.specs.Markets.{figure_if}
 use Rattle.figures.specs.Sums.{total_greatest}
 use Rattle.deficits.specs.Summed.{most_deficits, all_fair}

@@ -1,4 +1,4 @@
-use Rattle.std.proofs.Common.{◌≡◌, ℕ, length, get_or, take, pos, sym, ap, ◌∙◌, subst, arith, length-set, take_all, w64, SFits, rules}
+use Rattle.std.proofs.Common.{◌≡◌, ℕ, length, get_or, take, pos, ap, ◌∙◌, arith, length-set, take_all, w64, SFits, rules}
 use Rattle.std.proofs.lemmas.Int.{to_z-of_z}
 use Rattle.deficits.specs.Summed.{amounts}
 use Rattle.tables.proofs.Owing.{amounts_more}

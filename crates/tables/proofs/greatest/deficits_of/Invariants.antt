@@ -1,4 +1,4 @@
-use Rattle.std.proofs.Common.{◌≡◌, ◌≤◌, length, take}
+use Rattle.std.proofs.Common.{◌≡◌, length, take}
 use Rattle.deficits.specs.Summed.{amounts}
 use Rattle.tables.proofs.greatest.deficits_of.Given as goal
 

@@ -22,8 +22,8 @@ returns-in-len3 c =
     let third : SFits w64 (get_or c.args.numbers.now 2 (pos 0)) = search rules in
     c.trade.ensures ∙ with_three c.args.word.now xs _ _ _ (omega (arith, ltb-true, ltb-false)) (to_z-of_z w64 (get_or xs 0 (pos 0)) first) (to_z-of_z w64 (get_or xs 1 (pos 0)) second) (to_z-of_z w64 (get_or xs 2 (pos 0)) third)
 
-pub returns-in-default : goal.returns-in-default
-returns-in-default c =
+pub returns-in_default : goal.returns-in_default
+returns-in_default c =
     let some : length c.args.numbers.now ≡ 0 → ⊥ = search (rules, ltb-true, ltb-false) in
     let no-two : length c.args.numbers.now ≡ 2 → ⊥ = search (rules, ltb-true, ltb-false) in
     let no-three : length c.args.numbers.now ≡ 3 → ⊥ = search (rules, ltb-true, ltb-false) in
