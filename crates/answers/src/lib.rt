@@ -1,4 +1,5 @@
 //! The console's answers, as text.
+
 #![tactic(auto)]
 
 ghost use Rattle.std.specs.Prelude.{◌≡◌, ℕ, ◌++◌, IfOk, string_bytes, codes, Option, Result, OnOk};

@@ -1,5 +1,7 @@
 //! The console: it reads lines from standard input, and answers each at once on standard output.
 
+#![tactic(auto)]
+
 use answers::{add_sheet, contract_line};
 use console::{Request, request_of};
 use sheet_set::sets::SheetSet;
