@@ -48,7 +48,7 @@ Releases (statement t) = ⊥
 -- the law of the day, of every run over a table
 pub record DayLaw (m : ScenarioTable) (r : Run m) : Type 0 where
   pub worst_day : (tr : ℕ) → tr < length (ledger m r).traders → BelowZeroByABadDay m (ledger m r) tr
-  -- worst-day tells when a limit is below zero, this by how much
+  -- worst_day tells when a limit is below zero, this by how much
   pub risk_is_worst : (tr : ℕ) → RiskIsTheWorst m (ledger m r) tr
   -- of another run that is alike but for one larger deposit, made in the preparation or in the session
   pub larger_before : (h : Holder) (d : ℤ) → pos 0 ≤ℤ d → (r' : Run m) → Larger h d r.before r'.before → r.after ≡ r'.after → DepositHelps m h d (ledger m r) (ledger m r')
