@@ -1,20 +1,20 @@
 -- Trades that are entered, given to clients and taken from them. Assumes nothing.
-use Rattle.std.proofs.Common.{◌≡◌, ℕ, ◌<◌, Bool, true, false, cond, not, ◌||◌, eqb, ltb, List, [], ◌∷◌, ◌++◌, map, length, get_or, set, Some, None, Ok, Err, Option, Result, sym, refl, ap, ◌∙◌, arith}
+use Rattle.std.proofs.Common.{◌≡◌, ℕ, ◌<◌, Bool, true, false, cond, not, ltb, List, map, length, get_or, set, Some, None, Ok, Err, Option, Result, sym, refl, ap, ◌∙◌, arith}
 use Rattle.std.proofs.lemmas.List.{map-set, get_or-map, length-map}
 use Rattle.std.proofs.lemmas.Bool.{or_from, eq-eqb, false≢true}
 use Rattle.scenario.specs.Table.{ScenarioTable, Lawful}
 use Rattle.orders.specs.declared.Lot.{Lot}
-use Rattle.orders.specs.Meant.{side_of, trade_of_lot, carry_of_lot}
+use Rattle.orders.specs.Meant.{trade_of_lot, carry_of_lot}
 use Rattle.orders.specs.Replied.{answered}
 use Rattle.refusals.specs.declared.Refusal.{Refusal}
 use Rattle.refusals.specs.Numbers.{number_of}
 use Rattle.rules.specs.Bounds.{most_trades}
 use Rattle.rules.specs.Ledger.{Ledger, Trade, Standing, unspecified, specified, carried, no_trade, client_of, trade_of, price_of}
-use Rattle.rules.specs.Causes.{Call, trade, carry, specify, cause, entered, absent, beyond_the_word, is_lot, is_unspecified, no_such_trader, no_such_client, no_such_trade, standing_now}
+use Rattle.rules.specs.Causes.{specify, cause, entered, absent, beyond_the_word, is_lot, is_unspecified, no_such_trader, no_such_client, no_such_trade, standing_now}
 use Rattle.rules.specs.Answers.{Answered, numbered}
 use Rattle.rules.proofs.Answered.{refuses, accepts}
 use Rattle.rules.proofs.Bounded.{BoundsKept}
-use Rattle.rules.proofs.Rows.{hit, skip}
+use Rattle.rules.proofs.Rows.{skip}
 use Rattle.rules.proofs.Words.{never}
 use Rattle.book.specs.declared.trades.standing.TradeCell.{TradeCell}
 use Rattle.book.specs.declared.trades.standing.TradeCell.TheVariants.{Empty, Unspecified, Specified, Carried}

@@ -1,5 +1,5 @@
 -- A lot that is entered, and a trade that is taken from its client. Assumes nothing.
-use Rattle.std.specs.Prelude.{◌≡◌, ℕ, Bool, not, List, [], ◌∷◌, length, Some, None, Ok, Err, Option, Result, nat_lt}
+use Rattle.std.specs.Prelude.{◌≡◌, ℕ, not, [], ◌∷◌, length, Some, None, Ok, Err, Option, Result, nat_lt}
 use Rattle.scenario.specs.Table.{ScenarioTable}
 use Rattle.figures.specs.Figures.{Position}
 use Rattle.orders.specs.declared.Lot.{Lot}

@@ -3,7 +3,7 @@ use Rattle.std.proofs.Common.{◌≡◌, ℕ, ◌+◌, ◌<◌, ◌≤◌, Bool,
 use lib.Signed.{lt_z}
 use Rattle.std.proofs.lemmas.List.{get_or_past, length-map, map_push}
 use Rattle.std.proofs.lemmas.Int.{ints}
-use Rattle.std.proofs.lemmas.Bool.{cond-true, ltb-false, lt-ltb, le-ltb, or_from, or_left, or_right, not_true, not-false, and_parts}
+use Rattle.std.proofs.lemmas.Bool.{cond-true, ltb-false, lt-ltb, le-ltb, or_from, or_left, or_right, not-true, not-false, and_parts}
 use Rattle.figures.specs.Markets.{figure_if}
 use Rattle.scenario.specs.Table.{ScenarioTable}
 use Rattle.rules.specs.Bounds.{most_amount, most_standing, most_slips}
@@ -45,9 +45,9 @@ paid_is l (of_member t) a ss n = refl
 
 -- an unknown holder has nothing
 pub nothing_held : (l : Ledger) (h : Holder) → no_such_holder l h ≡ true → collateral_of l h ≡ pos 0
-nothing_held l (of_client c) e = ap (λ (x : Client). x.collateral) (get_or_past l.clients c no_client (ltb-false _ _ (not_true _ e)))
-nothing_held l (of_trader t) e = ap (λ (x : Trader). x.own) (get_or_past l.traders t no_trader (ltb-false _ _ (not_true _ e)))
-nothing_held l (of_member t) e = ap (λ (x : Trader). x.favour) (get_or_past l.traders t no_trader (ltb-false _ _ (not_true _ e)))
+nothing_held l (of_client c) e = ap (λ (x : Client). x.collateral) (get_or_past l.clients c no_client (ltb-false _ _ (not-true _ e)))
+nothing_held l (of_trader t) e = ap (λ (x : Trader). x.own) (get_or_past l.traders t no_trader (ltb-false _ _ (not-true _ e)))
+nothing_held l (of_member t) e = ap (λ (x : Trader). x.favour) (get_or_past l.traders t no_trader (ltb-false _ _ (not-true _ e)))
 
 -- ---- what is free
 
@@ -101,7 +101,7 @@ capped_paid b h a f =
     (lowered l h a (next_slip l h a) refl refl (up (and_parts _ _ f.fair).0) (holder_exists l h f.known) (enough (collateral_of l h) f.enough) (funded_in b)).capped
   where
     up : not (lt_z a (pos 1)) ≡ true → pos 0 ≤ℤ a
-    up e = let p : lt_z a (pos 1) ≡ false = not_true (lt_z a (pos 1)) e in omega (arith, ints)
+    up e = let p : lt_z a (pos 1) ≡ false = not-true (lt_z a (pos 1)) e in omega (arith, ints)
 
     enough : (c : ℤ) → lt_z c a ≡ false → a ≤ℤ c
     enough c q = omega (arith, ints)

@@ -1,5 +1,5 @@
 -- Rows of clients that are changed one after the other, and settlement amounts. Assumes nothing.
-use Rattle.std.proofs.Common.{◌≡◌, ℕ, zero, suc, ◌+◌, ◌-◌, ◌<◌, ◌≤◌, Bool, true, false, not, ◌&&◌, leb, List, [], ◌∷◌, ◌++◌, map, length, get_or, take, drop, set, ℤ, pos, neg_ℤ, nat_abs, Some, None, sym, refl, ap, ◌∙◌, add-one, arith}
+use Rattle.std.proofs.Common.{◌≡◌, ℕ, zero, suc, ◌+◌, ◌-◌, ◌<◌, ◌≤◌, true, false, not, List, [], ◌∷◌, ◌++◌, map, length, get_or, take, drop, set, ℤ, pos, neg_ℤ, nat_abs, None, sym, refl, ap, ◌∙◌, add-one, arith}
 use lib.Signed.{lt_z}
 use Rattle.std.proofs.lemmas.List.{take_all, drop_all, append-nil, get_or-append_right, get_or-drop, length-take-le}
 use Rattle.std.proofs.lemmas.Int.{ints}

@@ -1,5 +1,5 @@
 -- A row that is written, by what it means. Assumes nothing.
-use Rattle.std.proofs.Common.{◌≡◌, ℕ, ◌<◌, ◌≤◌, List, map, length, get_or, set, sym, refl, ap, ◌∙◌, arith}
+use Rattle.std.proofs.Common.{◌≡◌, ℕ, ◌<◌, ◌≤◌, List, map, length, get_or, set, sym, ap, ◌∙◌, arith}
 use Rattle.std.proofs.lemmas.List.{map-set, set_past, length-map, get_or-map}
 
 module _ {X Y : Type 0} (f : X → Y) (xs : List X) (i : ℕ) where

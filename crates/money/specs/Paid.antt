@@ -1,5 +1,5 @@
 -- What is handed out against a slip, a client's needs and its trader's limit aside. Assumes nothing.
-use Rattle.std.specs.Prelude.{◌≡◌, ℕ, ◌+◌, Bool, not, ◌||◌, List, [], ◌∷◌, ◌++◌, length, ℤ, ◌-ℤ◌, neg_ℤ, Ok, Err, Option, Result, int_lt, nat_lt}
+use Rattle.std.specs.Prelude.{◌≡◌, ℕ, ◌+◌, not, ◌||◌, [], ◌∷◌, ◌++◌, length, ℤ, ◌-ℤ◌, neg_ℤ, Ok, Err, Option, Result, int_lt, nat_lt}
 use Rattle.refusals.specs.declared.Refusal.{Refusal}
 use Rattle.refusals.specs.Numbers.{refusal_of}
 use Rattle.rules.specs.Bounds.{most_standing, most_slips}

@@ -1,17 +1,16 @@
-use Rattle.std.proofs.Common.{◌≡◌, ℕ, Bool, true, not, ltb, List, [], ◌∷◌, ◌++◌, map, length, Some, None, Option, sym, refl, ap, ◌∙◌}
+use Rattle.std.proofs.Common.{◌≡◌, ℕ, not, ltb, length, Some, None, Option, sym, ap, ◌∙◌}
 use Rattle.std.proofs.lemmas.List.{length-map}
 use Rattle.std.proofs.lemmas.Bool.{not-false}
 use Rattle.rules.specs.Bounds.{most_trades}
 use Rattle.rules.proofs.Rows.{row_off}
 use Rattle.figures.specs.Figures.{Position}
 use Rattle.figures.specs.Positions.{position_of}
-use Rattle.rules.specs.Ledger.{Ledger, Trade}
 use Rattle.book.specs.declared.trades.standing.Trade.{Trade as Kept}
 use Rattle.book.specs.Ledgers.{ledger_in}
 use Rattle.book.specs.Means.{trade_in}
 use Rattle.book.specs.Standings.{cell_for}
 use Rattle.book.specs.Tabled.{cells_in}
-use Rattle.entries.specs.Lots.{standing_for, after_lot, lot_position}
+use Rattle.entries.specs.Lots.{standing_for, lot_position}
 use Rattle.entries.proofs.Entered.{counted, pushed}
 use Rattle.entries.proofs.Traded.{with_trades}
 use Rattle.entries.proofs.lots.enter_lot.Goals as goal
@@ -23,7 +22,7 @@ in_cell t None p e = λ i. record { trader = t.trader; position = e i; standing 
 
 pub returns : goal.returns
 returns c =
-    let f = c.in-ok-position.ensures in
+    let f = c.in_ok-position.ensures in
     let b = c.args.book.now in
     let l = ledger_in b in
     record {

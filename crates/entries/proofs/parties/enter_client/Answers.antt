@@ -1,4 +1,4 @@
-use Rattle.std.proofs.Common.{◌≡◌, List, [], ◌∷◌, ◌++◌, pos, None, sym, refl, ap, ◌∙◌, arith}
+use Rattle.std.proofs.Common.{◌≡◌, List, [], ◌∷◌, ◌++◌, pos, None, refl, ap, ◌∙◌, arith}
 use Rattle.std.proofs.lemmas.Bool.{lt-ltb}
 use Rattle.scenario.specs.Table.{ScenarioTable}
 use Rattle.cells.specs.Listed.{listed}
@@ -14,21 +14,21 @@ use Rattle.entries.proofs.Entered.{no_contracts, pushed, not_full, is_full, coun
 use Rattle.entries.proofs.parties.enter_client.Goals as goal
 use Rattle.entries.proofs.parties.enter_client.Goals.{After-push}
 
-pub returns-then-number-ge-MOST-CLIENTS : goal.returns-then-number-ge-MOST-CLIENTS
-returns-then-number-ge-MOST-CLIENTS c m =
+pub returns-then-number-ge-MOST_CLIENTS : goal.returns-then-number-ge-MOST_CLIENTS
+returns-then-number-ge-MOST_CLIENTS c m =
     let l = ledger_in c.args.book.now in
-    refuses m l (client c.args.trader) 11 (client_table_full m l c.args.trader c.in-Some.ensures.0 (is_full client_in (listed c.args.book.now.clients) _ most_clients c.len-number.ensures.value c.if-number-ge-MOST-CLIENTS.true))
+    refuses m l (client c.args.trader) 11 (client_table_full m l c.args.trader c.in-Some.ensures.0 (is_full client_in (listed c.args.book.now.clients) _ most_clients c.len-number.ensures.value c.if-number-ge-MOST_CLIENTS.true))
 
 free : (c : After-push) (m : ScenarioTable) → cause m (ledger_in c.args.book.now) (client c.args.trader) ≡ None
-free c m = client_free m (ledger_in c.args.book.now) c.args.trader c.in-Some.ensures.0 (not_full client_in (listed c.args.book.now.clients) _ most_clients c.len-number.ensures.value c.if-number-ge-MOST-CLIENTS.false)
+free c m = client_free m (ledger_in c.args.book.now) c.args.trader c.in-Some.ensures.0 (not_full client_in (listed c.args.book.now.clients) _ most_clients c.len-number.ensures.value c.if-number-ge-MOST_CLIENTS.false)
 
 longer : (c : After-push) → clients_in c.push.new.self ≡ clients_in c.args.book.now.clients ++ new_client c.args.trader ∷ []
 longer c =
     let made : ◌≡◌ {A = Client} _ (new_client c.args.trader) = λ i. record { trader = c.in-Some.ensures.1 i; collateral = c.none.ensures i; cash = c.none-2.ensures i; opening_need = pos 0 } in
-    pushed client_in (listed c.args.book.now.clients) (listed c.push.new.self) _ (new_client c.args.trader) c.push.result (c.push.ensures.said ∙ lt-ltb _ _ (omega (arith, c.len-number.ensures.value, c.if-number-ge-MOST-CLIENTS.false))) c.push.ensures.after made
+    pushed client_in (listed c.args.book.now.clients) (listed c.push.new.self) _ (new_client c.args.trader) c.push.result (c.push.ensures.said ∙ lt-ltb _ _ (omega (arith, c.len-number.ensures.value, c.if-number-ge-MOST_CLIENTS.false))) c.push.ensures.after made
 
-pub invariant-of-book : goal.invariant-of-book
-invariant-of-book c = (capped_after no_contracts c.args.book.now (client c.args.trader) (free c no_contracts) _ _ _ refl (longer c) refl, tt)
+pub invariant_of-book : goal.invariant_of-book
+invariant_of-book c = record { capped = capped_after no_contracts c.args.book.now (client c.args.trader) (free c no_contracts) _ _ _ refl (longer c) refl }
 
 pub returns : goal.returns
 returns c m =

@@ -1,12 +1,11 @@
-use Rattle.std.proofs.Common.{◌≡◌, ◌<◌, true, not, map, length, Result, sym, refl, ap, ◌∙◌, arith}
+use Rattle.std.proofs.Common.{not, Result, sym, ap, ◌∙◌, arith}
 use Rattle.std.proofs.lemmas.Bool.{lt-ltb}
 use Rattle.orders.specs.Replied.{answered}
 use Rattle.refusals.specs.declared.Refusal.{Refusal}
-use Rattle.rules.specs.Ledger.{Trade, Client, unspecified}
+use Rattle.rules.specs.Ledger.{Trade, Client}
 use Rattle.rules.specs.Causes.{specify, is_unspecified}
-use Rattle.rules.specs.Answers.{Answer, accepted}
+use Rattle.rules.specs.Answers.{accepted}
 use Rattle.rules.proofs.Answered.{accepts}
-use Rattle.book.specs.declared.trades.standing.TradeCell.{TradeCell}
 use Rattle.book.specs.declared.trades.standing.TradeCell.TheVariants.{Empty}
 use Rattle.book.specs.Ledgers.{ledger_in}
 use Rattle.book.specs.Means.{trade_in}
@@ -16,8 +15,8 @@ use Rattle.book.proofs.Fills.{filled_at}
 use Rattle.entries.proofs.Traded.{given_at, cell_read, specify_free, with_trades}
 use Rattle.entries.proofs.trading.specify.Goals as goal
 
-pub overflow-cast-client : goal.overflow-cast-client
-overflow-cast-client c = record { fits = omega (arith, few_clients c.args.book.now, c.in-Some-client.ensures.0) }
+pub overflow_cast-client : goal.overflow_cast-client
+overflow_cast-client c = record { fits = omega (arith, few_clients c.args.book.now, c.in-Some-client.ensures.0) }
 
 pub returns : goal.returns
 returns c m =

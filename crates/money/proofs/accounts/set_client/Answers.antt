@@ -12,5 +12,5 @@ returns-in-Some c a h =
     let e = row_means client_in xs c.args.client c.in-Some.row no_client t.0 t.1 in
     row_written client_in xs c.args.client (listed c.set.new.self) _ (more a (get_or (clients_in c.args.clients.now) c.args.client no_client)) c.set.ensures (λ i. record { trader = (e i).trader; collateral = h i; cash = (e i).cash; opening_need = (e i).opening_need })
 
-pub returns-in-default : goal.returns-in-default
-returns-in-default c a h = none_written client_in (listed c.args.clients.now) c.args.client _ c.in-default.ensures
+pub returns-in_default : goal.returns-in_default
+returns-in_default c a h = none_written client_in (listed c.args.clients.now) c.args.client _ c.in_default.ensures

@@ -12,5 +12,5 @@ returns-in-Some c a h =
     let e = row_means trader_in xs c.args.trader c.in-Some.row no_trader t.0 t.1 in
     row_written trader_in xs c.args.trader (listed c.set.new.self) _ (more_own a (get_or (traders_in c.args.traders.now) c.args.trader no_trader)) c.set.ensures (λ i. record { intraday = (e i).intraday; defaults = (e i).defaults; own = h i; favour = (e i).favour })
 
-pub returns-in-default : goal.returns-in-default
-returns-in-default c a h = none_written trader_in (listed c.args.traders.now) c.args.trader _ c.in-default.ensures
+pub returns-in_default : goal.returns-in_default
+returns-in_default c a h = none_written trader_in (listed c.args.traders.now) c.args.trader _ c.in_default.ensures

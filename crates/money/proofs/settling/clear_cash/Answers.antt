@@ -1,4 +1,4 @@
-use Rattle.std.proofs.Common.{◌≡◌, ◌<◌, length, pos, sym, refl, ap, ◌∙◌, arith}
+use Rattle.std.proofs.Common.{◌<◌, length, pos, ap, ◌∙◌, arith}
 use Rattle.std.proofs.lemmas.List.Edits.{map_over_more}
 use Rattle.std.proofs.lemmas.List.{length-map, length-set}
 use Rattle.cells.specs.Listed.{listed}
@@ -12,12 +12,12 @@ pub loop-place-preserved : goal.loop-place-preserved
 loop-place-preserved c =
     let xs = listed c.loop-place.clients in
     let i = c.loop-place.place in
-    let row = c.row-of-changed.result in
+    let row = c.row_of-changed.result in
     let inv = c.loop-place.invariant in
     let here : i < length xs = omega (arith, inv.1, c.loop-place-test.true, c.len-place-end.ensures.value) in
     let there : i < length (clients_in c.args.clients.now) = omega (arith, length-map (listed c.args.clients.now) client_in, inv.1) in (
       row_written client_in xs i (listed c.set.new.self) _ (with_cash (pos 0) (client_in row)) c.set.ensures (λ j. record { trader = row.trader; collateral = row.collateral.amount; cash = c.none-changed.ensures j; opening_need = row.opening_need })
-          ∙ map_over_more (with_cash (pos 0)) (clients_in c.args.clients.now) (clients_in c.loop-place.clients) i (client_in row) there inv.0 (row_means client_in xs i row (client_in row) here c.row-of-changed.ensures),
+          ∙ map_over_more (with_cash (pos 0)) (clients_in c.args.clients.now) (clients_in c.loop-place.clients) i (client_in row) there inv.0 (row_means client_in xs i row (client_in row) here c.row_of-changed.ensures),
       ap length c.set.ensures ∙ length-set xs i _ ∙ inv.1,
     )
 

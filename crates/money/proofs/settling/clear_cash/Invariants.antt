@@ -1,7 +1,7 @@
-use Rattle.std.proofs.Common.{◌≡◌, ◌≤◌, ◌++◌, map, length, take, drop, pos}
+use Rattle.std.proofs.Common.{◌≡◌, ◌++◌, map, length, take, drop, pos}
 use Rattle.cells.specs.Listed.{listed}
 use Rattle.rules.specs.Causes.{with_cash}
-use Rattle.book.specs.Means.{client_in, clients_in}
+use Rattle.book.specs.Means.{clients_in}
 use Rattle.money.proofs.settling.clear_cash.Given as goal
 
 abbrev pub invariant-loop-place : goal.invariant-loop-place

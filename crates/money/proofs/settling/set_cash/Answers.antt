@@ -1,4 +1,4 @@
-use Rattle.std.proofs.Common.{◌≡◌, Bool, true, not, List, set, ℤ, Some, None, sym, refl, ap, ◌∙◌, arith, w64}
+use Rattle.std.proofs.Common.{◌≡◌, true, not, List, set, ℤ, None, refl, ap, ◌∙◌, w64}
 use Rattle.std.proofs.lemmas.Int.{to_z-of_z}
 use Rattle.std.proofs.lemmas.Bool.{lt-ltb}
 use Rattle.cells.specs.Listed.{listed}
@@ -31,8 +31,8 @@ written c =
     let h = (amount c).1 in
     row_written client_in (listed c.args.book.now.clients) c.args.client (listed c.set.new.self) _ (with_cash c.args.amount (client_of (ledger_in c.args.book.now) c.args.client)) c.set.ensures (λ i. record { trader = (e i).trader; collateral = (e i).collateral; cash = h i; opening_need = (e i).opening_need })
 
-pub invariant-of-book : goal.invariant-of-book
-invariant-of-book c = (capped_after no_contracts c.args.book.now (cash c.args.client c.args.amount) (free c no_contracts) _ _ _ refl (written c) refl, tt)
+pub invariant_of-book : goal.invariant_of-book
+invariant_of-book c = record { capped = capped_after no_contracts c.args.book.now (cash c.args.client c.args.amount) (free c no_contracts) _ _ _ refl (written c) refl }
 
 pub returns : goal.returns
 returns c m =

@@ -1,12 +1,11 @@
-use Rattle.std.proofs.Common.{◌≡◌, ℕ, ◌+◌, Bool, true, not, ltb, List, [], ◌∷◌, ◌++◌, map, length, ℤ, pos, ◌+ℤ◌, ◌-ℤ◌, neg_ℤ, ◌≤ℤ◌, None, sym, refl, ap, ◌∙◌, subst, arith, w64, to_z, of_z}
+use Rattle.std.proofs.Common.{◌≡◌, ◌+◌, not, ltb, [], ◌∷◌, ◌++◌, length, ℤ, ◌+ℤ◌, ◌-ℤ◌, neg_ℤ, None, refl, ap, ◌∙◌, arith, w64, to_z, of_z}
 use Rattle.std.proofs.lemmas.Int.{ints, to_z-of_z}
 use Rattle.std.proofs.lemmas.Bool.{or_parts, not-false}
 use Rattle.cells.specs.Listed.{listed}
 use Rattle.orders.specs.Meant.{holder_of}
-use Rattle.rules.specs.Bounds.{most_amount, most_standing, most_slips}
-use Rattle.rules.specs.Causes.{next_slip, amounts_of, with_slips}
-use Rattle.rules.specs.Ledger.{Ledger, Holder, Slip, Trader, Client, collateral_in, collateral_of, moved}
-use Rattle.book.specs.declared.stubs.Stub.{Stub}
+use Rattle.rules.specs.Bounds.{most_standing, most_slips}
+use Rattle.rules.specs.Causes.{next_slip}
+use Rattle.rules.specs.Ledger.{Ledger, Holder, Slip, collateral_of, moved}
 use Rattle.book.specs.Ledgers.{ledger_in}
 use Rattle.book.specs.Means.{slip_in, slips_in, traders_in, clients_in}
 use Rattle.money.specs.Paid.{pay_cause}
@@ -25,16 +24,16 @@ module _ (c : After-push) where
   kept = to_z-of_z w64 c.args.amount c.ranges.amount
 
   uncaused : None ≡ pay_cause l h c.args.amount
-  uncaused = c.in-ok-parting.ensures.caused ∙ ap (pay_cause l h) kept
+  uncaused = c.in_ok-parting.ensures.caused ∙ ap (pay_cause l h) kept
 
   free : FreeToPay l h c.args.amount
   free = free_to_pay l h c.args.amount uncaused
 
-  slip_says : slip_in record { serial = l.made + 1; holder = c.args.holder; amount = c.in-ok-parting.parting.paid } ≡ next_slip l h c.args.amount
-  slip_says = ap (λ (a : ℤ). let s : Slip = record { serial = l.made + 1; holder = h; amount = a } in s) (c.in-ok-parting.ensures.made.1 ∙ kept)
+  slip_says : slip_in record { serial = l.made + 1; holder = c.args.holder; amount = c.in_ok-parting.parting.paid } ≡ next_slip l h c.args.amount
+  slip_says = ap (λ (a : ℤ). let s : Slip = record { serial = l.made + 1; holder = h; amount = a } in s) (c.in_ok-parting.ensures.made.1 ∙ kept)
 
-  moves : (traders_in c.set-collateral.new.traders ≡ (moved l h (neg_ℤ c.args.amount)).traders) × (clients_in c.set-collateral.new.clients ≡ (moved l h (neg_ℤ c.args.amount)).clients)
-  moves = c.set-collateral.ensures l (neg_ℤ c.args.amount) refl refl (less _ (collateral_of l h) c.args.amount _ c.in-ok-parting.ensures.made.0 kept)
+  moves : (traders_in c.set_collateral.new.traders ≡ (moved l h (neg_ℤ c.args.amount)).traders) × (clients_in c.set_collateral.new.clients ≡ (moved l h (neg_ℤ c.args.amount)).clients)
+  moves = c.set_collateral.ensures l (neg_ℤ c.args.amount) refl refl (less _ (collateral_of l h) c.args.amount _ c.in_ok-parting.ensures.made.0 kept)
     where
       less : (r x a b : ℤ) → r ≡ x -ℤ b → b ≡ a → r ≡ x +ℤ neg_ℤ a
       less r x a b e q = omega (arith, ints)
@@ -42,8 +41,8 @@ module _ (c : After-push) where
   longer : slips_in c.push.new.self ≡ l.slips ++ next_slip l h c.args.amount ∷ []
   longer = pushed_slip (listed c.args.book.now.slips) (listed c.push.new.self) _ (next_slip l h c.args.amount) c.push.result 32 (not-false _ (or_parts (not (ltb (length l.slips) most_standing)) (not (ltb l.made most_slips)) free.room).0) c.push.ensures.said c.push.ensures.after slip_says
 
-pub invariant-of-book : goal.invariant-of-book
-invariant-of-book c = (capped_at _ _ _ _ _ _ (moves c).0 (moves c).1 (longer c) (capped_paid c.args.book.now (h c) c.args.amount (free c)), tt)
+pub invariant_of-book : goal.invariant_of-book
+invariant_of-book c = record { capped = capped_at _ _ _ _ _ _ (moves c).0 (moves c).1 (longer c) (capped_paid c.args.book.now (h c) c.args.amount (free c)) }
 
 pub returns : goal.returns
 returns c =

@@ -1,4 +1,4 @@
-use Rattle.std.proofs.Common.{◌≡◌, ◌≤◌, ℤ, pos, ◌+ℤ◌, nat_abs, ◌≤ℤ◌, sym, refl, ap, ◌∙◌, arith, w64, to_z, of_z}
+use Rattle.std.proofs.Common.{◌≡◌, ◌≤◌, ℤ, pos, ◌+ℤ◌, nat_abs, ◌≤ℤ◌, ◌∙◌, arith, w64, to_z, of_z}
 use Rattle.std.proofs.lemmas.Int.{ints}
 use Rattle.figures.proofs.Sizes.{kept64}
 use Rattle.orders.specs.Meant.{holder_of}
@@ -12,8 +12,8 @@ use Rattle.money.proofs.vaults.restored.Goals as goal
 kept : (f : Fund) → to_z w64 (of_z w64 f.amount) ≡ f.amount
 kept f = kept64 f.amount (omega (arith, ints, f.low, f.high))
 
-pub changed-by-requires : goal.changed-by-requires
-changed-by-requires c =
+pub changed_by-requires : goal.changed_by-requires
+changed_by-requires c =
     let r = room_for_back c.args.book.now (slip_in c.args.stub) c.requires in
     let k = by c.in-Some.held.amount (collateral_of (ledger_in c.args.book.now) (holder_of c.args.stub.holder)) c.args.stub.amount.amount _ c.in-Some.ensures.1 (kept c.args.stub.amount) c.in-Some.held.low c.args.stub.amount.low c.args.stub.amount.high r.1 in
     record { small = k.0; low = k.1; high = k.2 }
@@ -22,7 +22,7 @@ changed-by-requires c =
     by u x a b p q l n k h = (omega (arith, ints), omega (arith, ints), omega (arith, ints))
 
 pub returns-in-Some : goal.returns-in-Some
-returns-in-Some c = c.changed-by.ensures ∙ (λ i. c.in-Some.ensures.1 i +ℤ kept c.args.stub.amount i)
+returns-in-Some c = c.changed_by.ensures ∙ (λ i. c.in-Some.ensures.1 i +ℤ kept c.args.stub.amount i)
 
 pub returns-in-None : goal.returns-in-None
 returns-in-None c = none _ _ (nothing_held (ledger_in c.args.book.now) (holder_of c.args.stub.holder) c.in-None.ensures)

@@ -1,19 +1,17 @@
-use Rattle.std.proofs.Common.{◌≡◌, true, List, map, sym, refl, ap, ◌∙◌}
+use Rattle.std.proofs.Common.{refl}
 use Rattle.cells.specs.Listed.{listed}
 use Rattle.rules.specs.Causes.{settle}
-use Rattle.rules.specs.Ledger.{is_standing, struck}
 use Rattle.rules.proofs.Slips.{settled}
-use Rattle.book.specs.declared.stubs.Stub.{Stub}
 use Rattle.book.specs.Ledgers.{ledger_in}
-use Rattle.book.specs.Means.{slip_in, slips_in}
+use Rattle.book.specs.Means.{slip_in}
 use Rattle.book.proofs.Facts.{capped_after}
 use Rattle.money.proofs.Paying.{no_contracts, found_standing, found_struck}
 use Rattle.money.proofs.vaults.settle.Goals as goal
 
-pub invariant-of-book : goal.invariant-of-book
-invariant-of-book c =
+pub invariant_of-book : goal.invariant_of-book
+invariant_of-book c =
     let b = c.args.book.now in
     let s = slip_in c.args.stub in
     let f = c.in-Some.ensures in
-    let e = c.as-slice.ensures.value in
-    (capped_after no_contracts b (settle s) (settled no_contracts (ledger_in b) s (found_standing s _ (listed b.slips) e f.1)) _ _ _ refl refl (found_struck s _ (listed b.slips) (listed c.remove.new.self) c.in-Some.place e f.2 c.remove.ensures), tt)
+    let e = c.as_slice.ensures.value in
+    record { capped = capped_after no_contracts b (settle s) (settled no_contracts (ledger_in b) s (found_standing s _ (listed b.slips) e f.1)) _ _ _ refl refl (found_struck s _ (listed b.slips) (listed c.remove.new.self) c.in-Some.place e f.2 c.remove.ensures) }
