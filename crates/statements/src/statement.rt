@@ -8,6 +8,7 @@ use cells::rows::Rows;
 use figures::utilisations::Utilisation;
 
 /// What a trader's clients need and lack, the risk, what stands behind it, and what that leaves, in centavos.
+#[derive(Clone, Copy)]
 pub struct Statement {
     /// How many subportfolios the model has: so many margins of each client stand.
     pub subportfolios: u8,
@@ -26,8 +27,6 @@ pub struct Statement {
     /// How much of the backing the risk takes up.
     pub used: Utilisation,
 }
-
-impl Copy for Statement {}
 
 impl Statement {
     /// A place for a statement, in which nothing is stated.

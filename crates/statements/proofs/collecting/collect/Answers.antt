@@ -9,10 +9,10 @@ use Rattle.statements.specs.Asking.{asks}
 use Rattle.statements.proofs.Gathered.{collect_room, collect_yes, collect_no, collect_all}
 use Rattle.statements.proofs.Picking.{some_if, none_if}
 use Rattle.statements.proofs.collecting.collect.Goals as goal
-use Rattle.statements.proofs.collecting.collect.Goals.{in-Some, in-default}
+use Rattle.statements.proofs.collecting.collect.Goals.{in-Some, in_default}
 
-pub position-in-requires : goal.position-in-requires
-position-in-requires c =
+pub position_in-requires : goal.position_in-requires
+position_in-requires c =
     ap is_filled c.cell-item.is ∙ filled_at c.args.cells.now c.loop-cell.cell-index c.cell-item.result c.loop-cell-test.true c.requires.1
 
 pub loop-cell-init : goal.loop-cell-init
@@ -24,16 +24,16 @@ loop-cell-preserved c =
     let p = asks c.args.asked in
     let cells = c.args.cells.now in
     let cell = c.cell-item.result in
-    elim c.match-position-in.branch [
+    elim c.match-position_in.branch [
       | in-Some w ↦
           let x = w.in-Some.position in
           let q = some_if (p (trade_in cell)) (position_of x) (trade_in cell).position w.in-Some.ensures in
           let room = w.push.ensures.said ∙ collect_room p cells l.cell-index cell c.loop-cell-test.true c.cell-item.is (listed l.found) c.requires.0 l.invariant in
           ap (λ f. positions_of (listed f)) w.found-is
           ∙ collect_yes p cells l.cell-index cell c.loop-cell-test.true c.cell-item.is (listed l.found) (listed w.push.new.self) x q.0 q.1 (w.push.ensures.after ∙ cond-true w.push.result _ _ room) l.invariant
-      | in-default w ↦
+      | in_default w ↦
           ap (λ f. positions_of (listed f)) w.found-is
-          ∙ collect_no p cells l.cell-index cell c.loop-cell-test.true c.cell-item.is (listed l.found) (none_if (p (trade_in cell)) (trade_in cell).position w.in-default.ensures) l.invariant
+          ∙ collect_no p cells l.cell-index cell c.loop-cell-test.true c.cell-item.is (listed l.found) (none_if (p (trade_in cell)) (trade_in cell).position w.in_default.ensures) l.invariant
     ]
 
 pub returns : goal.returns

@@ -13,40 +13,40 @@ use Rattle.statements.specs.Figured.{figures_in}
 use Rattle.statements.proofs.Lacks.{lacks, lacks_meant, lacking_of}
 use Rattle.statements.proofs.stating.statement_of.Given as given
 use Rattle.statements.proofs.stating.statement_of.Goals as goal
-use Rattle.statements.proofs.stating.statement_of.Goals.{After-risk-of-risk}
+use Rattle.statements.proofs.stating.statement_of.Goals.{After-risk_of-risk}
 
-specified_is : (g : given.Over) (c : After-risk-of-risk g) → to_z w64 (of_z w64 c.specified-risk-specified.result) ≡ specified_risk (g.M.ScenarioModel.table c.args.model.now) (ledger_in c.args.book.now) c.args.number
+specified_is : (g : given.Over) (c : After-risk_of-risk g) → to_z w64 (of_z w64 c.specified_risk-specified.result) ≡ specified_risk (g.M.ScenarioModel.table c.args.model.now) (ledger_in c.args.book.now) c.args.number
 specified_is g c =
     let m = g.M.ScenarioModel.table c.args.model.now in
     let l = ledger_in c.args.book.now in
     let cs = clients_of l c.args.number in
-    let xs = listed c.all-figures-clients.result in
+    let xs = listed c.all_figures-clients.result in
     let is : trader_in c.args.trader ≡ trader_of l c.args.number = c.requires in
-    let all : lacks xs ≡ map (deficit_of m l) cs = lacks_meant m.subportfolios xs ∙ ap (map (λ (f : ClientFigures). f.lacking)) c.all-figures-clients.ensures ∙ lacking_of m l cs in
-    to_z-of_z w64 c.specified-risk-specified.result (record { sfits = c.specified-risk-specified.type-inv }) ∙ c.specified-risk-specified.ensures.value ∙ (λ i. total_greatest (is i).defaults (all i))
+    let all : lacks xs ≡ map (deficit_of m l) cs = lacks_meant m.subportfolios xs ∙ ap (map (λ (f : ClientFigures). f.lacking)) c.all_figures-clients.ensures ∙ lacking_of m l cs in
+    to_z-of_z w64 c.specified_risk-specified.result (record { sfits = c.specified_risk-specified.type_inv }) ∙ c.specified_risk-specified.ensures.value ∙ (λ i. total_greatest (is i).defaults (all i))
 
-unspecified_is : (g : given.Over) (c : After-risk-of-risk g) → to_z w64 (of_z w64 c.unspecified-risk-unspecified.result) ≡ unspecified_risk (g.M.ScenarioModel.table c.args.model.now) (ledger_in c.args.book.now) c.args.number
-unspecified_is g c = to_z-of_z w64 c.unspecified-risk-unspecified.result (record { sfits = c.unspecified-risk-unspecified.type-inv }) ∙ c.unspecified-risk-unspecified.ensures.value
+unspecified_is : (g : given.Over) (c : After-risk_of-risk g) → to_z w64 (of_z w64 c.unspecified_risk-unspecified.result) ≡ unspecified_risk (g.M.ScenarioModel.table c.args.model.now) (ledger_in c.args.book.now) c.args.number
+unspecified_is g c = to_z-of_z w64 c.unspecified_risk-unspecified.result (record { sfits = c.unspecified_risk-unspecified.type_inv }) ∙ c.unspecified_risk-unspecified.ensures.value
 
-risk_is : (g : given.Over) (c : After-risk-of-risk g) → to_z w64 (of_z w64 c.risk-of-risk.result) ≡ risk (g.M.ScenarioModel.table c.args.model.now) (ledger_in c.args.book.now) c.args.number
-risk_is g c = to_z-of_z w64 c.risk-of-risk.result (record { sfits = c.risk-of-risk.type-inv }) ∙ c.risk-of-risk.ensures.value ∙ (λ i. specified_is g c i +ℤ unspecified_is g c i)
+risk_is : (g : given.Over) (c : After-risk_of-risk g) → to_z w64 (of_z w64 c.risk_of-risk.result) ≡ risk (g.M.ScenarioModel.table c.args.model.now) (ledger_in c.args.book.now) c.args.number
+risk_is g c = to_z-of_z w64 c.risk_of-risk.result (record { sfits = c.risk_of-risk.type_inv }) ∙ c.risk_of-risk.ensures.value ∙ (λ i. specified_is g c i +ℤ unspecified_is g c i)
 
-pub used-of-requires : goal.used-of-requires
-used-of-requires g c =
+pub used_of-requires : goal.used_of-requires
+used_of-requires g c =
     let m = g.M.ScenarioModel.table c.args.model.now in
     let l = ledger_in c.args.book.now in (
-      subst (λ (z : ℤ). pos 0 ≤ℤ z) (sym (to_z-of_z w64 c.backing-of-backing.result (record { sfits = c.backing-of-backing.type-inv }))) c.backing-of-backing.ensures.low,
-      subst (λ (z : ℤ). pos 0 ≤ℤ z) (sym (risk_is g (goal.at.used-of-requires g c).After-risk-of-risk)) (risk_not_below m l c.args.number),
+      subst (λ (z : ℤ). pos 0 ≤ℤ z) (sym (to_z-of_z w64 c.backing_of-backing.result (record { sfits = c.backing_of-backing.type_inv }))) c.backing_of-backing.ensures.low,
+      subst (λ (z : ℤ). pos 0 ≤ℤ z) (sym (risk_is g (goal.at.used_of-requires g c).After-risk_of-risk)) (risk_not_below m l c.args.number),
     )
 
 pub returns : goal.returns
 returns g c =
     let m = g.M.ScenarioModel.table c.args.model.now in
     let l = ledger_in c.args.book.now in
-    let w = (goal.at.returns g c).After-risk-of-risk in
+    let w = (goal.at.returns g c).After-risk_of-risk in
     let is : trader_in c.args.trader ≡ trader_of l c.args.number = c.requires in
-    let clients = ap (λ (k : ℕ). map (figures_in k) (listed c.all-figures-clients.result)) c.subportfolios.ensures ∙ c.all-figures-clients.ensures in
-    let behind = to_z-of_z w64 c.backing-of-backing.result (record { sfits = c.backing-of-backing.type-inv }) ∙ c.backing-of-backing.ensures.value ∙ ap (λ (x : Trader). x.intraday +ℤ x.own +ℤ x.favour) is in
-    let left = to_z-of_z w64 c.left-of.result (record { sfits = c.left-of.type-inv }) ∙ c.left-of.ensures ∙ (λ i. behind i -ℤ risk_is g w i) in
-    let used = c.used-of.ensures ∙ (λ i. utilisation (nat_abs (behind i)) (nat_abs (risk_is g w i))) in
+    let clients = ap (λ (k : ℕ). map (figures_in k) (listed c.all_figures-clients.result)) c.subportfolios.ensures ∙ c.all_figures-clients.ensures in
+    let behind = to_z-of_z w64 c.backing_of-backing.result (record { sfits = c.backing_of-backing.type_inv }) ∙ c.backing_of-backing.ensures.value ∙ ap (λ (x : Trader). x.intraday +ℤ x.own +ℤ x.favour) is in
+    let left = to_z-of_z w64 c.left_of.result (record { sfits = c.left_of.type_inv }) ∙ c.left_of.ensures ∙ (λ i. behind i -ℤ risk_is g w i) in
+    let used = c.used_of.ensures ∙ (λ i. utilisation (nat_abs (behind i)) (nat_abs (risk_is g w i))) in
     λ i. record { clients = clients i; specified = specified_is g w i; unspecified = unspecified_is g w i; at_risk = risk_is g w i; behind = behind i; left = left i; used = used i }

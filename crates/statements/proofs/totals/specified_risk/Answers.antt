@@ -7,25 +7,25 @@ use Rattle.figures.specs.Sums.{total_greatest}
 use Rattle.statements.proofs.Lacks.{lacks, lacks_summable}
 use Rattle.statements.proofs.Picking.{some_if, none_if}
 use Rattle.statements.proofs.totals.specified_risk.Goals as goal
-use Rattle.statements.proofs.totals.specified_risk.Goals.{After-sum-of-greatest}
+use Rattle.statements.proofs.totals.specified_risk.Goals.{After-sum_of_greatest}
 
-amounts_are : (c : After-sum-of-greatest) → amounts c.as-slice-2.result.now ≡ lacks (listed c.args.clients.now)
-amounts_are c = ap amounts c.as-slice-2.ensures.value ∙ c.deficits-of-deficits.ensures ∙ ap lacks c.as-slice.ensures.value
+amounts_are : (c : After-sum_of_greatest) → amounts c.as_slice-2.result.now ≡ lacks (listed c.args.clients.now)
+amounts_are c = ap amounts c.as_slice-2.ensures.value ∙ c.deficits_of-deficits.ensures ∙ ap lacks c.as_slice.ensures.value
 
 pub unreachable-requires : goal.unreachable-requires
 unreachable-requires c =
-    let ds = c.as-slice-2.result.now in
+    let ds = c.as_slice-2.result.now in
     both_ways (summable ds) (none_if (summable ds) (total_greatest c.args.defaults (amounts ds)) c.in-None.ensures.value)
-    (lacks_summable ds (listed c.args.clients.now) c.as-slice.ensures.few (amounts_are (goal.at.unreachable-requires c).After-sum-of-greatest))
+    (lacks_summable ds (listed c.args.clients.now) c.as_slice.ensures.few (amounts_are (goal.at.unreachable-requires c).After-sum_of_greatest))
 
 pub returns : goal.returns
 returns c =
-    let ds = c.as-slice-2.result.now in
+    let ds = c.as_slice-2.result.now in
     let n = c.args.defaults in
     let f : SFits w64 c.in-Some.sum = search rules in
     let bits = to_z-of_z w64 c.in-Some.sum f in
     let is = (some_if (summable ds) c.in-Some.sum (total_greatest n (amounts ds)) c.in-Some.ensures.value).1 in
     record {
-      value = bits ∙ is ∙ ap (total_greatest n) (amounts_are (goal.at.returns c).After-sum-of-greatest);
+      value = bits ∙ is ∙ ap (total_greatest n) (amounts_are (goal.at.returns c).After-sum_of_greatest);
       small = rw bits c.in-Some.ensures.small;
     }

@@ -15,8 +15,8 @@ returns g c =
     let m = g.M.ScenarioModel.table c.args.model.now in
     let l = ledger_in c.args.book.now in
     let is : positions_of (listed c.collect-found.result) ≡ open_trades l c.args.trader = c.collect-found.ensures ∙ ap (λ (ts : List Trade). map (λ (t : Trade). t.position) (only (open_for c.args.trader) ts)) c.cells.ensures.value in
-    let e = kept64 c.open-risk-of-rows.result (omega (arith, c.open-risk-of-rows.ensures.small)) in
+    let e = kept64 c.open_risk_of_rows.result (omega (arith, c.open_risk_of_rows.ensures.small)) in
     record {
-      value = e ∙ c.open-risk-of-rows.ensures.value ∙ (λ i. open_risk m (priced (c.prices.ensures i)) (is i));
-      small = rw e c.open-risk-of-rows.ensures.small;
+      value = e ∙ c.open_risk_of_rows.ensures.value ∙ (λ i. open_risk m (priced (c.prices.ensures i)) (is i));
+      small = rw e c.open_risk_of_rows.ensures.small;
     }

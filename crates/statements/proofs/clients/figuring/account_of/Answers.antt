@@ -1,6 +1,6 @@
 use Rattle.std.proofs.Common.{◌≡◌, true, List, map, ap, ◌∙◌}
 use Rattle.cells.specs.Listed.{listed}
-use Rattle.figures.specs.Figures.{Position, margin, goal as need-for}
+use Rattle.figures.specs.Figures.{Position, margin, need as need-for}
 use Rattle.figures.specs.Positions.{positions_of}
 use Rattle.figures.specs.Priced.{priced}
 use Rattle.figures.specs.Sums.{only, those_below}
@@ -16,6 +16,6 @@ returns g c =
     let is : positions_of (listed c.collect-found.result) ≡ held l c.args.number = c.collect-found.ensures ∙ ap (λ (ts : List Trade). map (λ (t : Trade). t.position) (only (held_by c.args.number) ts)) c.cells.ensures.value in
     record {
       margins = c.account.ensures.margins ∙ ap (λ (ts : List Position). map (margin m ts) (those_below m.subportfolios (λ _. true))) is;
-      goal = c.account.ensures.need ∙ (λ i. need-for m (priced (c.prices.ensures i)) (is i) c.args.client.cash.amount);
+      need = c.account.ensures.need ∙ (λ i. need-for m (priced (c.prices.ensures i)) (is i) c.args.client.cash.amount);
       small = c.account.ensures.small;
     }

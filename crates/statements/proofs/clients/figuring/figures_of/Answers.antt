@@ -1,6 +1,6 @@
 use Rattle.std.proofs.Common.{◌≡◌, ◌≤◌, nat_abs, ap, ◌∙◌, arith}
 use Rattle.std.proofs.lemmas.Int.{ints}
-use Rattle.figures.specs.Figures.{deficit, goal as need-for}
+use Rattle.figures.specs.Figures.{deficit, need as need-for}
 use Rattle.figures.proofs.Sizes.{kept64}
 use Rattle.rules.specs.Ledger.{Client, client_of, market}
 use Rattle.rules.specs.Limits.{held}
@@ -13,7 +13,7 @@ returns g c =
     let m = g.M.ScenarioModel.table c.args.model.now in
     let l = ledger_in c.args.book.now in
     let n = c.args.number in
-    let a = c.account-of-account in
+    let a = c.account_of-account in
     let put = c.args.client.collateral in
     let is : client_in c.args.client ≡ client_of l n = c.requires in
     let small : nat_abs put.amount ≤ 1000000000000000 = omega (arith, ints, put.low, put.high) in
