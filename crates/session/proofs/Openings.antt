@@ -1,5 +1,5 @@
 -- Opening needs that are worked out before they are entered. Assumes nothing.
-use Rattle.std.proofs.Common.{◌≡◌, ℕ, zero, suc, ◌+◌, ◌<◌, List, [], ◌∷◌, length, ℤ, sym, refl, ap, ◌∙◌, arith}
+use Rattle.std.proofs.Common.{◌≡◌, ℕ, suc, ◌+◌, ◌<◌, List, [], ◌∷◌, length, ℤ, sym, refl, ap, ◌∙◌, arith}
 use Rattle.rules.specs.Ledger.{Client}
 use Rattle.rules.specs.Causes.{opened}
 

@@ -1,4 +1,4 @@
-use Rattle.std.proofs.Common.{◌≡◌, refl, ap, subst, w64}
+use Rattle.std.proofs.Common.{refl, ap, subst, w64}
 use Rattle.std.proofs.lemmas.Int.{to_z-of_z}
 use Rattle.orders.specs.Meant.{holder_of}
 use Rattle.orders.specs.Replied.{answered}

@@ -1,4 +1,4 @@
-use Rattle.std.proofs.Common.{◌≡◌, ℕ, List, get_or, pos, refl, ap, ◌∙◌}
+use Rattle.std.proofs.Common.{ℕ, List, get_or, pos, refl, ap, ◌∙◌}
 use Rattle.rules.specs.Ledger.{Client, with_clients}
 use Rattle.rules.specs.Limits.{need_of}
 use Rattle.book.specs.Ledgers.{ledger_in}
@@ -9,6 +9,6 @@ pub returns : goal.returns
 returns g c =
     let l = ledger_in c.args.self.book in
     record {
-      ledger = c.enter-needs.ensures ∙ ap (λ (xs : List Client). with_clients l xs l.passed) (same_openings (λ (n : ℕ). get_or c.needs-of-needs.result n (pos 0)) (need_of (g.M.ScenarioModel.table c.args.self.model) l) l.clients c.needs-of-needs.ensures.known);
+      ledger = c.enter_needs.ensures ∙ ap (λ (xs : List Client). with_clients l xs l.passed) (same_openings (λ (n : ℕ). get_or c.needs_of-needs.result n (pos 0)) (need_of (g.M.ScenarioModel.table c.args.self.model) l) l.clients c.needs_of-needs.ensures.known);
       model = refl;
     }

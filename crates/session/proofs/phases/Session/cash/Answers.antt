@@ -1,4 +1,4 @@
-use Rattle.std.proofs.Common.{◌≡◌, refl, ap, subst, w64}
+use Rattle.std.proofs.Common.{refl, ap, subst, w64}
 use Rattle.std.proofs.lemmas.Int.{to_z-of_z}
 use Rattle.orders.specs.Replied.{answered}
 use Rattle.rules.specs.Answers.{Answered, accepted}
@@ -10,6 +10,6 @@ pub returns : goal.returns
 returns g c =
     let m = g.M.ScenarioModel.table c.args.self.now.model in
     record {
-      rules = subst (λ (x : Call). Answered m (ledger_in c.args.self.now.book) x (answered {X = Unit {0}} (λ _. accepted) c.set-cash.result) (ledger_in c.set-cash.new.book)) (ap (cash c.args.client) (to_z-of_z w64 c.args.amount c.ranges.amount)) (c.set-cash.ensures m);
+      rules = subst (λ (x : Call). Answered m (ledger_in c.args.self.now.book) x (answered {X = Unit {0}} (λ _. accepted) c.set_cash.result) (ledger_in c.set_cash.new.book)) (ap (cash c.args.client) (to_z-of_z w64 c.args.amount c.ranges.amount)) (c.set_cash.ensures m);
       model = refl;
     }
