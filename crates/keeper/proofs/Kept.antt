@@ -1,5 +1,5 @@
 -- Laws of `insert`, `ranked` and `kept` under any order, and the three steps of a caller's loop over offers: `keeping_none` before the first
--- offer, `keeping-more` after each, `keeping-done` once the keeper has given its cells back. Assumes nothing.
+-- offer, `keeping_more` after each, `keeping_done` once the keeper has given its cells back. Assumes nothing.
 use Rattle.std.proofs.Common.{◌≡◌, ℕ, zero, suc, ◌+◌, ◌-◌, ◌<◌, ◌≤◌, min, Bool, true, false, cond, List, [], ◌∷◌, ◌++◌, length, take, drop, fold, sym, refl, ap, ◌∙◌, arith}
 use Rattle.std.specs.List.{AllByRecursion}
 use Rattle.std.proofs.ByRecursion.{All-take}
