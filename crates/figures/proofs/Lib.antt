@@ -8,3 +8,4 @@ pub mod Pricing
 pub mod Sizes
 pub mod Summing
 pub mod Chosen
+pub mod SignedSums

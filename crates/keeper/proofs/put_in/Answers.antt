@@ -1,23 +1,18 @@
-use Rattle.std.proofs.Common.{inl, inr, arith}
-use Rattle.keeper.proofs.Pass.{next_pass, next_put, end_free, end_full}
+use Rattle.std.proofs.Common.{◌≤◌, arith}
+use Rattle.std.proofs.lemmas.List.{length-take}
+use Rattle.keeper.specs.Order.{ahead_by}
+use Rattle.keeper.proofs.Place.{put_at_place, put_beyond}
 use Rattle.keeper.proofs.put_in.Goals as goal
-use Rattle.keeper.proofs.put_in.Goals.{then-placed, then-placed-via-then-placed, then-placed-via-else-placed+then-outranks, else-placed+else-outranks}
 
-pub loop-i-preserved : goal.loop-i-preserved
-loop-i-preserved g c =
-    elim c.if-placed.branch [
-      | then-placed w ↦ next_put g.T.Ranked.before c.args.cells.now c.args.filled c.args.x (omega arith) c.loop-i.i c.loop-i.cells c.loop-i.placed c.loop-i.carry c.index-cells-i.result c.loop-i.invariant (omega arith) c.loop-i.auto.cells c.index-cells-i.is _ _ _ (cc) (cc) (cc)
-          (elim w.then-placed.branch [ then-placed-via-then-placed v ↦ inl v.if-placed.true | then-placed-via-else-placed+then-outranks v ↦ inr (v.if-placed.false, let h = v.if-outranks.ensures in cc) ])
-      | else-placed+else-outranks w ↦ next_pass g.T.Ranked.before c.args.cells.now c.args.filled c.args.x (omega arith) c.loop-i.i c.loop-i.cells c.loop-i.placed c.loop-i.carry c.index-cells-i.result c.loop-i.invariant (omega arith) c.loop-i.auto.cells c.index-cells-i.is _ _ _ (cc) (cc) (cc)
-          w.if-placed.false (let h = w.if-outranks.ensures in cc)
-    ]
+pub returns-clause-held : goal.returns-clause-held
+returns-clause-held g c =
+    let es = c.args.cells.now in
+    let f = c.args.filled in
+    let p = c.place_among-place.result in
+    let le : p ≤ f = omega (arith, c.place_among-place.ensures.within, length-take f es) in
+    put_at_place (ahead_by g.T.Ord.cmp) c.args.x es c.copy_within.new.self f p c.min-last.result c.requires c.place_among-place.ensures.place le (omega arith) (omega arith) c.copy_within.ensures.len c.copy_within.ensures.by_index.1 c.copy_within.ensures.by_index.0
 
-pub returns-then-filled-cells : goal.returns-then-filled-cells
-returns-then-filled-cells g c =
-    let r = end_free g.T.Ranked.before c.args.cells.now c.loop-i.cells c.args.filled c.loop-i.i c.args.x c.loop-i.placed c.loop-i.carry c.loop-i.invariant (omega arith) (omega arith) c.loop-i.auto.cells (omega arith) in
-    record { count = omega arith; held = r.0; rest = r.1 }
-
-pub returns-else-filled-cells : goal.returns-else-filled-cells
-returns-else-filled-cells g c =
-    let r = end_full g.T.Ranked.before c.args.cells.now c.loop-i.cells c.args.filled c.loop-i.i c.args.x c.loop-i.placed c.loop-i.carry c.loop-i.invariant (omega arith) (omega arith) c.loop-i.auto.cells (omega arith) in
-    record { count = omega arith; held = r.0; rest = r.1 }
+pub returns-then-place-cells-clause-held : goal.returns-then-place-cells-clause-held
+returns-then-place-cells-clause-held g c =
+    put_beyond (ahead_by g.T.Ord.cmp) c.args.x c.args.cells.now c.args.filled c.place_among-place.result c.requires c.place_among-place.ensures.place
+    (omega (arith, c.place_among-place.ensures.within, length-take c.args.filled c.args.cells.now)) c.if-place-cells.true
