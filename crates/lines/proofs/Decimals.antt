@@ -1,9 +1,10 @@
 -- The decimal digits of numbers, the last one at the end. Assumes nothing.
-use Rattle.std.proofs.Common.{◌≡◌, ℕ, ◌+◌, ◌/◌, ◌%◌, ◌^◌, ◌<◌, ◌≤◌, Bool, List, [], ◌∷◌, ◌++◌, ℤ, pos, negsuc, nat_abs, decimal, sym, refl, ap, ◌∙◌, arith}
+use Rattle.std.proofs.Common.{◌≡◌, ℕ, ◌+◌, ◌/◌, ◌%◌, ◌^◌, ◌<◌, ◌≤◌, Bool, List, [], ◌∷◌, ◌++◌, ℤ, pos, negsuc, nat_abs, decimal, sym, refl, ap, ◌∙◌, arith, w64, SFits, to_z, of_z}
 use lib.Signed.{lt_z}
 use Rattle.std.specs.Fmt.{sign_text, signed_decimal}
 use Rattle.std.proofs.lemmas.Fmt.{decimal_digit, decimal_step_wide}
 use Rattle.std.proofs.lemmas.Bool.{le-ltb}
+use Rattle.std.proofs.lemmas.Int.{to_z-of_z}
 use Rattle.lines.specs.Lined.{followed}
 use Rattle.lines.proofs.Room.{then}
 
@@ -23,3 +24,7 @@ signed_is (negsuc n) = refl
 pub sign_first : (a b c : List ℕ) (z y : ℤ) (m : ℕ) → y ≡ z → b ≡ followed a (sign_text (lt_z y (pos 0))) → m ≡ nat_abs y → c ≡ followed b (decimal m) → c ≡ followed a (signed_decimal z)
 sign_first a b c z y m same sign is e =
     then a b c _ _ sign e ∙ ap (followed a) (ap (λ (k : ℕ). sign_text (lt_z y (pos 0)) ++ decimal k) is ∙ signed_is y ∙ ap signed_decimal same)
+
+-- a text and then a number that was handed on as 64 bits
+pub text_signed : (a c s : List ℕ) (z : ℤ) → SFits w64 z → c ≡ followed a (s ++ signed_decimal (to_z w64 (of_z w64 z))) → c ≡ followed a (s ++ signed_decimal z)
+text_signed a c s z fits e = e ∙ ap (λ (y : ℤ). followed a (s ++ signed_decimal y)) (to_z-of_z w64 z fits)
