@@ -1,4 +1,4 @@
-pub mod Boundaries
-pub mod Cutting
 pub mod Digits
+pub mod Front
+pub mod Cutting
 pub mod Verbs
