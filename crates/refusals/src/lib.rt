@@ -10,42 +10,42 @@ use std::fmt;
 /// A cause of refusal. Where several hold of a call, the one that stands first here counts.
 #[derive(Clone, Copy, PartialEq, Eq, Debug)]
 pub enum Refusal {
-    /// 1: the file is under 24 or over 65,536 bytes, or its length field is not its length.
-    WrongLength,
-    /// 2: the kind is not 1 to 3.
-    WrongKind,
-    /// 3: a count is outside its kind's range.
-    WrongCount,
-    /// 4: an area starts before byte 24, ends past the file or overlaps the other.
-    WrongArea,
-    /// 5: a contract number is above 255 or not rising.
-    WrongNumber,
-    /// 6: another field is outside its range.
-    WrongField,
-    /// 7: scenario 0 is not zero.
-    MovedFirst,
-    /// 10: the trader, client, trade, holder, or contract in the model, is unknown.
-    Unknown,
-    /// 11: the table is full.
-    TableFull,
-    /// 12: a quantity, price, amount, settlement amount, intraday limit or default count is outside its range.
-    OutOfRange,
-    /// 13: trade or carry of a contract without a price.
-    NoPrice,
-    /// 16: wrong state of the trade.
-    WrongState,
-    /// 17: client of another trader.
-    OtherTrader,
-    /// 18: too much collateral.
-    TooMuchCollateral,
-    /// 19: the withdrawal or cancellation is not covered.
-    NotCovered,
-    /// 20: after the settlement window.
-    AfterWindow,
-    /// 21: no such slip.
-    NoSuchSlip,
-    /// 22: beyond the word.
-    BeyondWord,
+    /// The file is under 24 or over 65,536 bytes, or its length field is not its length.
+    WrongLength = 1,
+    /// The kind is not 1 to 3.
+    WrongKind = 2,
+    /// A count is outside its kind's range.
+    WrongCount = 3,
+    /// An area starts before byte 24, ends past the file or overlaps the other.
+    WrongArea = 4,
+    /// A contract number is above 255 or not rising.
+    WrongNumber = 5,
+    /// Another field is outside its range.
+    WrongField = 6,
+    /// Scenario 0 is not zero.
+    MovedFirst = 7,
+    /// The trader, client, trade, holder, or contract in the model, is unknown.
+    Unknown = 10,
+    /// The table is full.
+    TableFull = 11,
+    /// A quantity, price, amount, settlement amount, intraday limit or default count is outside its range.
+    OutOfRange = 12,
+    /// Trade or carry of a contract without a price.
+    NoPrice = 13,
+    /// Wrong state of the trade.
+    WrongState = 16,
+    /// Client of another trader.
+    OtherTrader = 17,
+    /// Too much collateral.
+    TooMuchCollateral = 18,
+    /// The withdrawal or cancellation is not covered.
+    NotCovered = 19,
+    /// After the settlement window.
+    AfterWindow = 20,
+    /// No such slip.
+    NoSuchSlip = 21,
+    /// Beyond the word.
+    BeyondWord = 22,
 }
 
 impl Refusal {
@@ -53,26 +53,7 @@ impl Refusal {
     pub fn number(self) -> u8
         ensures { result ≡ number_of self }
     {
-        match self {
-            Refusal::WrongLength => 1,
-            Refusal::WrongKind => 2,
-            Refusal::WrongCount => 3,
-            Refusal::WrongArea => 4,
-            Refusal::WrongNumber => 5,
-            Refusal::WrongField => 6,
-            Refusal::MovedFirst => 7,
-            Refusal::Unknown => 10,
-            Refusal::TableFull => 11,
-            Refusal::OutOfRange => 12,
-            Refusal::NoPrice => 13,
-            Refusal::WrongState => 16,
-            Refusal::OtherTrader => 17,
-            Refusal::TooMuchCollateral => 18,
-            Refusal::NotCovered => 19,
-            Refusal::AfterWindow => 20,
-            Refusal::NoSuchSlip => 21,
-            Refusal::BeyondWord => 22,
-        }
+        self as u8
     }
 
     /// One line for people.
