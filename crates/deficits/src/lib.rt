@@ -24,7 +24,7 @@ pub const MOST_DEFICITS: usize = 128;
 pub const MOST_AMOUNT: i64 = 50_000_000_000_000_000;
 
 /// What a client lacks.
-#[derive(Clone, Copy, Debug, PartialEq, Eq)]
+#[derive(Clone, Copy, Debug, Default, PartialEq, Eq)]
 pub struct Deficit {
     /// In centavos.
     pub amount: i64,
@@ -82,12 +82,6 @@ pub struct Picked {
     pub sum: i64,
 }
 
-/// What a cell holds before a deficit is kept in it.
-const UNFILLED: Deficit = Deficit {
-    amount: 0,
-    client: 0,
-};
-
 /// Whether every amount is 0 to `MOST_AMOUNT`.
 fn are_fair(deficits: &[Deficit]) -> bool
     ensures { result ≡ all_fair (amounts deficits.now) }
@@ -96,6 +90,7 @@ fn are_fair(deficits: &[Deficit]) -> bool
 }
 
 /// The amounts together.
+// Kept as a clause of each function that gives a sum: callers read the sum as an i64, which a type with the bound would hide.
 fn total_of(deficits: &[Deficit]) -> i64
     requires { summable deficits.now ≡ true }
     ensures value { result ≡ total (λ x. x) (amounts deficits.now) }
@@ -133,7 +128,7 @@ pub fn sum_of_greatest(deficits: &[Deficit], n: usize) -> Option<i64>
     ensures moves { IfSome result (λ s. Moves n (amounts deficits.now) s) }
     ensures small { IfSome result (λ s. unsigned_abs s ≤ most_sum) }
 {
-    let mut cells = [UNFILLED; MOST_DEFICITS];
+    let mut cells = [Deficit::default(); MOST_DEFICITS];
     let picked = pick_greatest(deficits, &mut cells[..n.min(MOST_DEFICITS)]);
     picked.map(|picked| picked.sum)
 }
@@ -173,7 +168,7 @@ mod tests {
 
     #[test]
     fn of_equal_ones_the_lower_client_goes_first(rt: HostRuntime) -> Result<(), Fail> {
-        let mut cells = [lacking(0, 0); 2];
+        let mut cells = [Deficit::default(); 2];
         let picked = pick_greatest(
             &[lacking(7, 9), lacking(8, 5), lacking(7, 3)],
             &mut cells,

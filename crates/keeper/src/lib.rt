@@ -37,7 +37,15 @@ impl<'a, T: Ranked> Keeper<'a, T> {
         ensures size { width self.new ≡ width self.old }
         ensures lent { self.new.cells.ghost_name ≡ self.old.cells.ghost_name }
     {
-        self.filled = put_in(self.cells, self.filled, x);
+        let place = place_among(self.held(), x);
+        if place == self.cells.len() {
+            return;
+        }
+        // The first free cell, or else the last of all, is given up to those that move.
+        let last = self.filled.min(self.cells.len() - 1);
+        self.cells.copy_within(place..last, place + 1);
+        self.cells[place] = x;
+        self.filled = last + 1;
     }
 
     /// The held records, greatest first.
@@ -62,24 +70,6 @@ fn place_among<T: Ranked>(held: &[T], x: T) -> usize
     ensures within { result ≤ length held.now }
 {
     held.iter().position(|y| *y < x).unwrap_or(held.len())
-}
-
-/// Puts `x` into its place among the first `filled` of `cells`, and tells how many are filled then.
-/// Where all were filled, the last falls out.
-fn put_in<T: Ranked>(cells: &mut [T], filled: usize, x: T) -> usize
-    requires { filled ≤ length cells.old }
-    ensures count { result ≡ min (length cells.old) (filled + 1) }
-    ensures held { take result cells.new ≡ take (length cells.old) (insert (ahead_by T.cmp) x (take filled cells.old)) }
-    ensures rest { drop result cells.new ≡ drop result cells.old }
-{
-    let place = place_among(&cells[..filled], x);
-    if place == cells.len() {
-        return filled;
-    }
-    let last = filled.min(cells.len() - 1);
-    cells.copy_within(place..last, place + 1);
-    cells[place] = x;
-    last + 1
 }
 
 /// Fills `cells` with the greatest of the `offered` records, greatest first, and tells how many cells are filled.

@@ -2,13 +2,9 @@ use Rattle.std.proofs.Common.{◌≡◌, ◌+◌, List, [], ◌∷◌, ◌++◌,
 use Rattle.std.proofs.lemmas.List.{take_more}
 use Rattle.keeper.specs.Order.{ahead_by}
 use Rattle.keeper.specs.Kept.{Keeping}
-use Rattle.keeper.proofs.Kept.{keeping_none, keeping_more, keeping_done}
+use Rattle.keeper.proofs.Kept.{keeping_more, keeping_done}
 use Rattle.keeper.proofs.Greatest.{ahead_ranks, keeping_greatest, keeping_only, keeping_any_order}
 use Rattle.keeper.proofs.keep_greatest.Goals as goal
-
-pub loop-x-init : goal.loop-x-init
-loop-x-init g c =
-    (rw c.new-keeper.ensures.none (keeping_none (ahead_by g.T.Ord.cmp) c.new-keeper.result.cells.now), refl)
 
 pub loop-x-preserved : goal.loop-x-preserved
 loop-x-preserved g c =
