@@ -12,10 +12,7 @@ use std::alloc::{AllocError, Global};
 fn whole(digits: &str) -> Option<i64>
     ensures { result ≡ whole_in digits.now }
 {
-    match number(digits) {
-        Some(number) => i64::try_from(number).ok(),
-        None => None,
-    }
+    i64::try_from(number(digits)?).ok()
 }
 
 /// The number that a word writes: decimal digits, with `-` before them for a number below 0. `None` for another word, and
@@ -24,10 +21,7 @@ pub(crate) fn signed(word: &str) -> Option<i64>
     ensures { result ≡ signed_in word.now }
 {
     match word.strip_prefix('-') {
-        Some(digits) => match whole(digits) {
-            Some(number) => Some(-number),
-            None => None,
-        },
+        Some(digits) => Some(-whole(digits)?),
         None => whole(word),
     }
 }
