@@ -95,6 +95,7 @@ pub(crate) fn number_and_lot(text: &str) -> Option<(u64, Lot)>
 }
 
 // The holder with a number, by the word before it.
+// Kept beside `Spoken`: a holder is said by two words, and neither is one alone.
 fn holder_of(word: &str, number: u64) -> Option<Holder>
     ensures { result ≡ said.holder word.now number }
 {

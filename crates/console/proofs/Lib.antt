@@ -1,4 +1,3 @@
 pub mod Digits
 pub mod Front
 pub mod Cutting
-pub mod Verbs

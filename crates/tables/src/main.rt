@@ -12,24 +12,42 @@ mod steps;
 mod workings;
 
 use console::{next_word, only_word};
-use examples::Example;
+use examples::{Example, Untaken};
 use numbers::all_signed;
+use std::alloc::AllocError;
 use std::{fs, io};
 use workings::{Figure, figure_in};
 
-/// What became of a row.
-enum Outcome {
-    /// It was taken over, or its figure is as expected.
-    Well,
+/// What is wrong with a row.
+#[derive(Drop)]
+enum Fault {
     /// Its figure is not as expected.
     Different,
     /// It cannot be read, or its figure cannot be worked out.
     Faulty,
+    /// There is no memory, or the input or the output fails.
+    Broken(io::Error),
 }
 
-// A row that was taken over, or could not be.
-fn taken(well: bool) -> Outcome {
-    if well { Outcome::Well } else { Outcome::Faulty }
+impl From<io::Error> for Fault {
+    fn from(error: io::Error) -> Fault {
+        Fault::Broken(error)
+    }
+}
+
+impl From<AllocError> for Fault {
+    fn from(error: AllocError) -> Fault {
+        Fault::Broken(io::Error::from(error))
+    }
+}
+
+impl From<Untaken> for Fault {
+    fn from(error: Untaken) -> Fault {
+        match error {
+            Untaken::Refused => Fault::Faulty,
+            Untaken::OutOfMemory => Fault::Broken(io::Error::from(io::ErrorKind::OutOfMemory)),
+        }
+    }
 }
 
 // Prints a figure beside what it should be.
@@ -38,12 +56,12 @@ fn compare(
     question: &str,
     figure: Figure,
     expected: Figure,
-) -> io::Result<Outcome> {
+) -> Result<(), Fault> {
     println!(rt; "{question}: worked out {figure}, should be {expected}")?;
     if figure == expected {
-        Ok(Outcome::Well)
+        Ok(())
     } else {
-        Ok(Outcome::Different)
+        Err(Fault::Different)
     }
 }
 
@@ -53,54 +71,43 @@ fn answer(
     example: &Example,
     question: &str,
     expected: &str,
-) -> io::Result<Outcome> {
-    let Some((word, rest)) = next_word(question) else {
-        return Ok(Outcome::Faulty);
-    };
-    let Some(numbers) = all_signed(rt.alloc(), rest)? else {
-        return Ok(Outcome::Faulty);
-    };
-    match (
-        example.figure(word, numbers.as_slice()),
-        figure_in(expected),
-    ) {
-        (Some(figure), Some(expected)) => compare(rt, question.trim(), figure, expected),
-        _ => Ok(Outcome::Faulty),
-    }
+) -> Result<(), Fault> {
+    let (word, rest) = next_word(question).ok_or(Fault::Faulty)?;
+    let numbers = all_signed(rt.alloc(), rest)?.ok_or(Fault::Faulty)?;
+    let figure = example
+        .figure(word, numbers.as_slice())
+        .ok_or(Fault::Faulty)?;
+    let expected = figure_in(expected).ok_or(Fault::Faulty)?;
+    compare(rt, question.trim(), figure, expected)
 }
 
 // Takes over the sheet at a path.
-fn read_sheet(rt: &HostRuntime, example: &mut Example, path: &str) -> Outcome {
-    match fs::read(rt, path) {
-        Ok(file) => taken(example.read(file.as_slice()).is_ok()),
-        Err(_) => Outcome::Faulty,
-    }
+fn read_sheet(rt: &HostRuntime, example: &mut Example, path: &str) -> Result<(), Fault> {
+    let file = fs::read(rt, path).map_err(|_| Fault::Faulty)?;
+    example.read(file.as_slice()).map_err(|_| Fault::Faulty)
 }
 
 // Takes over what a word says with the words that follow it.
-fn prepare(rt: &HostRuntime, example: &mut Example, word: &str, rest: &str) -> io::Result<Outcome> {
+fn prepare(rt: &HostRuntime, example: &mut Example, word: &str, rest: &str) -> Result<(), Fault> {
     if word == "sheet"
         && let Some(path) = only_word(rest)
     {
-        return Ok(read_sheet(rt, example, path));
+        return read_sheet(rt, example, path);
     }
-    match all_signed(rt.alloc(), rest)? {
-        Some(numbers) => Ok(taken(example.take(word, numbers.as_slice())?)),
-        None => Ok(Outcome::Faulty),
-    }
+    let numbers = all_signed(rt.alloc(), rest)?.ok_or(Fault::Faulty)?;
+    Ok(example.take(word, numbers.as_slice())?)
 }
 
 // Answers a row. One that is blank, or that begins with `#`, is passed over.
-fn respond(rt: &HostRuntime, example: &mut Example, row: &str) -> io::Result<Outcome> {
+fn respond(rt: &HostRuntime, example: &mut Example, row: &str) -> Result<(), Fault> {
     let Some((word, rest)) = next_word(row) else {
-        return Ok(Outcome::Well);
+        return Ok(());
     };
     if row.starts_with('#') {
-        return Ok(Outcome::Well);
+        return Ok(());
     }
     if word == "table" {
-        rt.println(rest.trim())?;
-        return Ok(Outcome::Well);
+        return Ok(rt.println(rest.trim())?);
     }
     match row.split_once('=') {
         Some((question, expected)) => answer(rt, example, question, expected),
@@ -108,15 +115,12 @@ fn respond(rt: &HostRuntime, example: &mut Example, row: &str) -> io::Result<Out
     }
 }
 
-// Answers a row, and tells whether all is well with it.
-fn report(rt: &HostRuntime, example: &mut Example, row: &str) -> io::Result<bool> {
-    match respond(rt, example, row)? {
-        Outcome::Well => Ok(true),
-        Outcome::Different => Ok(false),
-        Outcome::Faulty => {
-            println!(rt; "cannot be worked out: {row}")?;
-            Ok(false)
-        }
+// Tells what is wrong with a row, unless its figures stand beside each other already or nothing can be told any more.
+fn report(rt: &HostRuntime, row: &str, fault: Fault) -> io::Result<()> {
+    match fault {
+        Fault::Different => Ok(()),
+        Fault::Faulty => println!(rt; "cannot be worked out: {row}"),
+        Fault::Broken(error) => Err(error),
     }
 }
 
@@ -124,15 +128,12 @@ fn report(rt: &HostRuntime, example: &mut Example, row: &str) -> io::Result<bool
 fn main(rt: HostRuntime) -> io::Result<()> {
     let rows = io::read_to_string(rt.alloc(), rt.stdin())?;
     let mut example = Example::new(rt.alloc());
-    let mut well = true;
+    let mut outcome = Ok(());
     for row in rows.lines() {
-        if !report(&rt, &mut example, row)? {
-            well = false;
+        if let Err(fault) = respond(&rt, &mut example, row) {
+            report(&rt, row, fault)?;
+            outcome = Err(io::Error::from(io::ErrorKind::InvalidData));
         }
     }
-    if well {
-        Ok(())
-    } else {
-        Err(io::Error::from(io::ErrorKind::InvalidData))
-    }
+    outcome
 }
