@@ -2,15 +2,14 @@
 
 #![tactic(auto)]
 
-ghost use Rattle.std.specs.Prelude.{◌≡◌, ℕ, ◌++◌, IfOk, string_bytes, codes, Option, Result, OnOk};
-ghost use Rattle.std.specs.Fmt.{signed_decimal};
+ghost use Rattle.std.specs.Prelude.{◌≡◌, ℕ, ◌++◌, IfOk, string_bytes, Option, Result, OnOk};
 ghost use Rattle.refusals.specs.Numbers.{refusal_of};
-ghost use Rattle.layout.specs.Fields.{kind};
 ghost use Rattle.inspection.specs.Causes.{sheet_cause};
 ghost use Rattle.sheet_set.specs.Places.{Added};
-ghost use Rattle.answers.specs.Texts.{refused_text, kind_name, sheet_text, misplaced_text, added_text, shocks_text, heading_text, contract_text};
+ghost use Rattle.answers.specs.Texts.{refused_text, sheet_text, misplaced_text, added_text, shocks_text, heading_text, contract_text};
 
-use layout::fields::{FACTORS, SERIES, contract_count, kind_of, scenario_count};
+use inspection::Kind;
+use layout::fields::{contract_count, kind_of, scenario_count};
 use refusals::Refusal;
 use scenario::ScenarioModel;
 use sheet_set::sets::SheetSet;
@@ -21,32 +20,17 @@ pub fn refused_line(heap: Global, refusal: Refusal) -> Result<String, AllocError
     ensures { IfOk result (λ s. string_bytes s ≡ refused_text refusal) }
 {
     let number = refusal.number();
-    let line = format!(in heap; "refused {number} {refusal}")?;
-    Ok(line)
-}
-
-// The name of the kind of sheet that a file has.
-fn kind_name(file: &[u8]) -> &'static str
-    ensures { result.now ≡ kind_name (kind file.now) }
-{
-    match kind_of(file) {
-        FACTORS => "factors",
-        SERIES => "series",
-        _ => "strikes",
-    }
+    format!(in heap; "refused {number} {refusal}")
 }
 
 // The answer to a file that was read: its place and its kind, how many contracts it has, and how many scenarios.
 fn sheet_line(heap: Global, place: u8, file: &[u8]) -> Result<String, AllocError>
     ensures { IfOk result (λ s. string_bytes s ≡ sheet_text place file.now) }
 {
-    let kind = kind_name(file);
+    let kind = Kind::try_from(kind_of(file)).unwrap_or(Kind::Strikes);
     let contracts = contract_count(file);
     let scenarios = scenario_count(file);
-    let line = format!(in heap;
-        "sheet {place} {kind} contracts {contracts} scenarios {scenarios}"
-    )?;
-    Ok(line)
+    format!(in heap; "sheet {place} {kind} contracts {contracts} scenarios {scenarios}")
 }
 
 // The answer to a file that finds no place.
@@ -75,17 +59,8 @@ fn heading(heap: Global, contract: u8, place: u8, multiplier: u16) -> Result<Str
     format!(in heap; "contract {contract} subportfolio {place} multiplier {multiplier} shocks")
 }
 
-// Adds a shock to a line, after a space.
-fn add_shock(heap: Global, line: &mut String, shock: i64) -> Result<(), AllocError>
-    ensures { OnOk result (string_bytes line.new ≡ string_bytes line.old ++ (codes " " ++ signed_decimal shock)) }
-{
-    let word = format!(in heap; " {shock}")?;
-    line.push_str(word.as_str())
-}
-
-// Adds the shocks of a contract in the first `count` scenarios to a line.
+// Adds the shocks of a contract in the first `count` scenarios to a line, each after a space.
 fn add_shocks<M: ScenarioModel>(
-    heap: Global,
     line: &mut String,
     model: &M,
     contract: u8,
@@ -94,7 +69,7 @@ fn add_shocks<M: ScenarioModel>(
     ensures { OnOk result (string_bytes line.new ≡ string_bytes line.old ++ shocks_text (M.ScenarioModel.table model.now) contract count) }
 {
     for scenario in 0..count {
-        add_shock(heap, line, model.shock(contract, scenario))?;
+        write!(line, " {}", model.shock(contract, scenario))?;
     }
     Ok(())
 }
@@ -115,6 +90,6 @@ pub fn contract_line<M: ScenarioModel>(
         return refused_line(heap, Refusal::Unknown);
     };
     let mut line = heading(heap, number, place, multiplier)?;
-    add_shocks(heap, &mut line, model, number, model.scenarios(place))?;
+    add_shocks(&mut line, model, number, model.scenarios(place))?;
     Ok(line)
 }

@@ -1,3 +1,2 @@
 pub mod Causes
-pub mod Kinds
 pub mod Tests

@@ -1,12 +1,16 @@
 //! The causes that the header alone can give: length, kind, counts and areas.
 
-ghost use Rattle.std.specs.Prelude.{◌≡◌};
-ghost use Rattle.inspection.specs.Causes.{wrong_length, wrong_kind, right_counts, overlap, wrong_area};
+#![tactic(auto, unfolding(crate::specs::Causes::wrong_length, crate::specs::Causes::right_counts, crate::specs::Causes::overlap, crate::specs::Causes::wrong_area))]
 
+ghost use Rattle.std.specs.Prelude.{◌≡◌};
+ghost use Rattle.inspection.specs.Causes.{wrong_length, right_counts, overlap, wrong_area};
+
+use crate::named::NamedFile;
 use layout::fields::{
-    FACTORS, SERIES, STRIKES, contract_area_size, contract_count, contract_start, factor_count,
-    kind_of, length_field, scenario_area_size, scenario_count, scenario_start,
+    contract_area_size, contract_count, contract_start, factor_count, length_field,
+    scenario_area_size, scenario_count, scenario_start,
 };
+use layout::kinds::Kind;
 
 /// The bytes of the header: the shortest file, and the first byte that an area may have.
 const HEADER: usize = 24;
@@ -29,31 +33,25 @@ const MOST_FACTORS: u16 = 8;
 pub(crate) fn has_wrong_length(file: &[u8]) -> bool
     ensures { result ≡ wrong_length file.now }
 {
-    file.len() < HEADER || file.len() > LONGEST || length_field(file) as usize != file.len()
+    !(HEADER..=LONGEST).contains(&file.len()) || length_field(file) as usize != file.len()
 }
 
-pub(crate) fn has_wrong_kind(file: &[u8]) -> bool
-    ensures { result ≡ wrong_kind file.now }
-{
-    let kind = kind_of(file);
-    kind < FACTORS || kind > STRIKES
-}
-
-pub(crate) fn has_right_counts(file: &[u8]) -> bool
-    ensures { result ≡ right_counts file.now }
-{
-    let n = contract_count(file);
-    let s = scenario_count(file);
-    let f = factor_count(file);
-    match kind_of(file) {
-        FACTORS => 1 <= n
-            && n <= MOST_CONTRACTS
-            && 1 <= s
-            && s <= MOST_SCENARIOS
-            && 1 <= f
-            && f <= MOST_FACTORS,
-        SERIES => 1 <= n && n <= MOST_CONTRACTS && 1 <= s && s <= MOST_SCENARIOS && f == 0,
-        _ => 1 <= n && n <= MOST_STRIKES && s == n + 1 && f == 0,
+impl NamedFile<'_> {
+    pub(crate) fn has_right_counts(&self) -> bool
+        ensures { result ≡ right_counts self.now.file.now }
+    {
+        let n = contract_count(self.file);
+        let s = scenario_count(self.file);
+        let f = factor_count(self.file);
+        match self.of {
+            Kind::Factors => (1..=MOST_CONTRACTS).contains(&n)
+                && (1..=MOST_SCENARIOS).contains(&s)
+                && (1..=MOST_FACTORS).contains(&f),
+            Kind::Series => (1..=MOST_CONTRACTS).contains(&n)
+                && (1..=MOST_SCENARIOS).contains(&s)
+                && f == 0,
+            Kind::Strikes => (1..=MOST_STRIKES).contains(&n) && s == n + 1 && f == 0,
+        }
     }
 }
 

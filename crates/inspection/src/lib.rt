@@ -2,42 +2,22 @@
 
 #![tactic(auto)]
 
-ghost use Rattle.std.specs.Prelude.{◌≡◌, ◌≤◌, IfOk};
+ghost use Rattle.std.specs.Prelude.{◌≡◌, IfOk};
 ghost use Rattle.refusals.specs.Numbers.{refusal_of};
 ghost use Rattle.layout.specs.Fields.{kind};
+ghost use Rattle.layout.specs.Kinds.{kind_number};
 ghost use Rattle.inspection.specs.Causes.{sheet_cause};
-ghost use Rattle.inspection.specs.Kinds.{kind_number};
 
 mod counts;
+mod named;
 mod rows;
-mod words;
 
-use layout::fields::{FACTORS, SERIES, kind_of};
+use layout::fields::kind_of;
+pub use layout::kinds::Kind;
+use named::NamedFile;
 use refusals::Refusal;
 
-/// The kinds of sheet.
-#[derive(Clone, Copy, PartialEq, Eq, Debug)]
-pub enum Kind {
-    /// Exposures to factors, and the factors' shocks.
-    Factors,
-    /// A series of shocks for each contract.
-    Series,
-    /// Contracts that pay off at one strike each.
-    Strikes,
-}
-
-// The kind that a file names, where it names one.
-fn named_kind(file: &[u8]) -> Kind
-    requires { (1 ≤ kind file.now) × (kind file.now ≤ 3) }
-    ensures { kind_number result ≡ kind file.now }
-{
-    match kind_of(file) {
-        FACTORS => Kind::Factors,
-        SERIES => Kind::Series,
-        _ => Kind::Strikes,
-    }
-}
-
+#[tactic(auto, unfolding(crate::specs::Causes::sheet_cause, crate::specs::Causes::wrong_kind))]
 /// The kind of an accepted file, or the first cause, in the order of the table, for which it is refused.
 pub fn inspect(file: &[u8]) -> Result<Kind, Refusal>
     ensures answer { refusal_of result ≡ sheet_cause file.now }
@@ -46,10 +26,9 @@ pub fn inspect(file: &[u8]) -> Result<Kind, Refusal>
     if counts::has_wrong_length(file) {
         return Err(Refusal::WrongLength);
     }
-    if counts::has_wrong_kind(file) {
-        return Err(Refusal::WrongKind);
-    }
-    if !counts::has_right_counts(file) {
+    let of = Kind::try_from(kind_of(file)).map_err(|_| Refusal::WrongKind)?;
+    let sheet = NamedFile { file, of };
+    if !sheet.has_right_counts() {
         return Err(Refusal::WrongCount);
     }
     if counts::has_wrong_area(file) {
@@ -58,11 +37,11 @@ pub fn inspect(file: &[u8]) -> Result<Kind, Refusal>
     if !rows::has_right_numbers(file) {
         return Err(Refusal::WrongNumber);
     }
-    if !rows::has_right_fields(file) {
+    if !sheet.has_right_fields() {
         return Err(Refusal::WrongField);
     }
-    if !rows::starts_unmoved(file) {
+    if !sheet.starts_unmoved() {
         return Err(Refusal::MovedFirst);
     }
-    Ok(named_kind(file))
+    Ok(of)
 }

@@ -1,15 +1,18 @@
 //! The causes that the contract records and the scenario area can give.
 
-ghost use Rattle.std.specs.Prelude.{◌≡◌, ℕ, ◌+◌, ◌-◌, ◌<◌, Bool, ◌&&◌, ltb, leb, ◌==◌, nat_eq, nat_le, nat_lt};
-ghost use Rattle.layout.specs.Fields.{contracts, scenarios, factors, number, second, exposure, factor_shock, series_shock};
+#![tactic(auto, unfolding(crate::specs::Causes::right_numbers, crate::specs::Causes::right_record, crate::specs::Causes::right_fields, crate::specs::Causes::unmoved_first))]
+
+ghost use Rattle.std.specs.Prelude.{◌≡◌, ◌&&◌, nat_eq};
+ghost use Rattle.layout.specs.Fields.{contracts, scenarios, second};
 ghost use Rattle.inspection.specs.Tests.{every, within};
 ghost use Rattle.inspection.specs.Causes.{right_numbers, right_record, factors_within, series_within, right_fields, unmoved_first};
 
-use crate::words::is_within;
+use crate::named::NamedFile;
 use layout::fields::{
-    FACTORS, SERIES, STRIKES, contract_count, exposure_at, factor_count, factor_shock_at, kind_of,
-    number_at, payoff_field, scenario_count, second_at, series_shock_at,
+    contract_count, exposure_at, factor_count, factor_shock_at, number_at, payoff_field,
+    scenario_count, second_at, series_shock_at,
 };
+use layout::kinds::Kind;
 
 /// The highest contract number.
 const HIGHEST_NUMBER: u16 = 255;
@@ -29,193 +32,84 @@ const MOST_SHOCK: u32 = 100_000_000;
 /// The largest payoff, in centavos.
 const MOST_PAYOFF: u32 = 100_000_000;
 
-fn is_small_number(file: &[u8], j: u16) -> bool
-    ensures { result ≡ nat_le (number file.now j) 255 }
+// Whether an amount lies within a limit of zero.
+fn is_within(limit: u32, amount: i32) -> bool
+    ensures { result ≡ within limit amount }
 {
-    number_at(file, j) <= HIGHEST_NUMBER
-}
-
-fn has_small_numbers(file: &[u8]) -> bool
-    ensures { result ≡ every (contracts file.now) (λ j. leb (number file.now j) 255) }
-{
-    let count = contract_count(file);
-    for j in 0..count {
-        if !is_small_number(file, j) {
-            return false;
-        }
-    }
-    true
-}
-
-fn rises_after(file: &[u8], j: u16) -> bool
-    requires { j < 65535 }
-    ensures { result ≡ nat_lt (number file.now j) (number file.now (j + 1)) }
-{
-    number_at(file, j) < number_at(file, j + 1)
-}
-
-fn has_rising_numbers(file: &[u8]) -> bool
-    ensures { result ≡ every (contracts file.now - 1) (λ j. ltb (number file.now j) (number file.now (j + 1))) }
-{
-    let count = contract_count(file).saturating_sub(1);
-    for j in 0..count {
-        if !rises_after(file, j) {
-            return false;
-        }
-    }
-    true
+    amount.unsigned_abs() <= limit
 }
 
 pub(crate) fn has_right_numbers(file: &[u8]) -> bool
     ensures { result ≡ right_numbers file.now }
 {
-    has_small_numbers(file) && has_rising_numbers(file)
-}
-
-fn is_small_exposure(file: &[u8], j: u16, f: u16) -> bool
-    ensures { result ≡ within 12500000 (exposure file.now j f) }
-{
-    is_within(MOST_EXPOSURE, exposure_at(file, j, f))
-}
-
-fn has_small_exposures(file: &[u8], j: u16) -> bool
-    ensures { result ≡ every (factors file.now) (λ f. within 12500000 (exposure file.now j f)) }
-{
-    let count = factor_count(file);
-    for f in 0..count {
-        if !is_small_exposure(file, j, f) {
-            return false;
-        }
-    }
-    true
+    let count = contract_count(file);
+    (0..count).all(|j| number_at(file, j) <= HIGHEST_NUMBER)
+        && (0..count.saturating_sub(1)).all(|j| number_at(file, j) < number_at(file, j + 1))
 }
 
 fn is_right_record(file: &[u8], j: u16) -> bool
     ensures { result ≡ right_record file.now j }
 {
-    second_at(file, j) <= MOST_MULTIPLIER && has_small_exposures(file, j)
-}
-
-fn has_right_records(file: &[u8]) -> bool
-    ensures { result ≡ every (contracts file.now) (right_record file.now) }
-{
-    let count = contract_count(file);
-    for j in 0..count {
-        if !is_right_record(file, j) {
-            return false;
-        }
-    }
-    true
-}
-
-fn is_factor_within(file: &[u8], limit: u32, s: u16, f: u16) -> bool
-    ensures { result ≡ within limit (factor_shock file.now s f) }
-{
-    is_within(limit, factor_shock_at(file, s, f))
+    second_at(file, j) <= MOST_MULTIPLIER
+        && (0..factor_count(file)).all(|f| is_within(MOST_EXPOSURE, exposure_at(file, j, f)))
 }
 
 fn has_factors_within(file: &[u8], limit: u32, s: u16) -> bool
     ensures { result ≡ factors_within file.now limit s }
 {
-    let count = factor_count(file);
-    for f in 0..count {
-        if !is_factor_within(file, limit, s, f) {
-            return false;
-        }
-    }
-    true
-}
-
-fn has_right_factor_rows(file: &[u8]) -> bool
-    ensures { result ≡ every (scenarios file.now) (factors_within file.now 10000) }
-{
-    let count = scenario_count(file);
-    for s in 0..count {
-        if !has_factors_within(file, MOST_FACTOR_SHOCK, s) {
-            return false;
-        }
-    }
-    true
-}
-
-fn is_zero_second(file: &[u8], j: u16) -> bool
-    ensures { result ≡ (second file.now j == 0) }
-{
-    second_at(file, j) == 0
-}
-
-fn has_zero_seconds(file: &[u8]) -> bool
-    ensures { result ≡ every (contracts file.now) (λ j. nat_eq (second file.now j) 0) }
-{
-    let count = contract_count(file);
-    for j in 0..count {
-        if !is_zero_second(file, j) {
-            return false;
-        }
-    }
-    true
-}
-
-fn is_series_within(file: &[u8], limit: u32, j: u16, s: u16) -> bool
-    ensures { result ≡ within limit (series_shock file.now j s) }
-{
-    is_within(limit, series_shock_at(file, j, s))
+    (0..factor_count(file)).all(|f| is_within(limit, factor_shock_at(file, s, f)))
 }
 
 fn has_series_within(file: &[u8], limit: u32, j: u16) -> bool
     ensures { result ≡ series_within file.now limit j }
 {
-    let count = scenario_count(file);
-    for s in 0..count {
-        if !is_series_within(file, limit, j, s) {
-            return false;
-        }
-    }
-    true
+    (0..scenario_count(file)).all(|s| is_within(limit, series_shock_at(file, j, s)))
 }
 
-fn has_right_series_rows(file: &[u8]) -> bool
+// Whether the contract records and the scenario rows of a sheet of factors are right.
+fn has_right_factors(file: &[u8]) -> bool
+    ensures { result ≡ (every (contracts file.now) (right_record file.now) && every (scenarios file.now) (factors_within file.now 10000)) }
+{
+    (0..contract_count(file)).all(|j| is_right_record(file, j))
+        && (0..scenario_count(file)).all(|s| has_factors_within(file, MOST_FACTOR_SHOCK, s))
+}
+
+fn has_zero_seconds(file: &[u8]) -> bool
+    ensures { result ≡ every (contracts file.now) (λ j. nat_eq (second file.now j) 0) }
+{
+    (0..contract_count(file)).all(|j| second_at(file, j) == 0)
+}
+
+fn has_right_series(file: &[u8]) -> bool
     ensures { result ≡ every (contracts file.now) (series_within file.now 100000000) }
 {
-    let count = contract_count(file);
-    for j in 0..count {
-        if !has_series_within(file, MOST_SHOCK, j) {
-            return false;
+    (0..contract_count(file)).all(|j| has_series_within(file, MOST_SHOCK, j))
+}
+
+impl NamedFile<'_> {
+    pub(crate) fn has_right_fields(&self) -> bool
+        ensures { result ≡ right_fields self.now.file.now }
+    {
+        let file = self.file;
+        let payoff = payoff_field(file);
+        match self.of {
+            Kind::Factors => payoff == 0 && has_right_factors(file),
+            Kind::Series => payoff == 0 && has_zero_seconds(file) && has_right_series(file),
+            Kind::Strikes => (1..=MOST_PAYOFF).contains(&payoff) && has_zero_seconds(file),
         }
     }
-    true
-}
 
-fn has_unmoved_column(file: &[u8]) -> bool
-    ensures { result ≡ every (contracts file.now) (λ j. within 0 (series_shock file.now j 0)) }
-{
-    let count = contract_count(file);
-    for j in 0..count {
-        if !is_series_within(file, 0, j, 0) {
-            return false;
+    pub(crate) fn starts_unmoved(&self) -> bool
+        ensures { result ≡ unmoved_first self.now.file.now }
+    {
+        let file = self.file;
+        match self.of {
+            Kind::Factors => has_factors_within(file, 0, 0),
+            Kind::Series => (0..contract_count(file)).all(|j| is_within(
+                0,
+                series_shock_at(file, j, 0),
+            )),
+            Kind::Strikes => true,
         }
-    }
-    true
-}
-
-pub(crate) fn has_right_fields(file: &[u8]) -> bool
-    ensures { result ≡ right_fields file.now }
-{
-    let payoff = payoff_field(file);
-    match kind_of(file) {
-        FACTORS => payoff == 0 && has_right_records(file) && has_right_factor_rows(file),
-        SERIES => payoff == 0 && has_zero_seconds(file) && has_right_series_rows(file),
-        STRIKES => 1 <= payoff && payoff <= MOST_PAYOFF && has_zero_seconds(file),
-        _ => payoff == 0 && has_zero_seconds(file),
-    }
-}
-
-pub(crate) fn starts_unmoved(file: &[u8]) -> bool
-    ensures { result ≡ unmoved_first file.now }
-{
-    match kind_of(file) {
-        FACTORS => has_factors_within(file, 0, 0),
-        SERIES => has_unmoved_column(file),
-        _ => true,
     }
 }

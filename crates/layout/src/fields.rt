@@ -1,18 +1,12 @@
 //! The fields of the header, of a contract record and of the scenario area. Each takes every file and every place.
 
+#![tactic(auto, unfolding(crate::specs::Fields::record_bytes, crate::specs::Fields::contract_bytes, crate::specs::Fields::scenario_bytes, crate::specs::Fields::number, crate::specs::Fields::second, crate::specs::Fields::exposure, crate::specs::Fields::factor_shock, crate::specs::Fields::series_shock))]
+
 ghost use Rattle.std.specs.Prelude.{◌≡◌, ℕ, ◌+◌, ◌*◌, ◌^◌, ◌<◌};
 ghost use Rattle.layout.specs.Fields.{kind, contracts, scenarios, factors, contract_area, scenario_area, stated_length, payoff, record_bytes, contract_bytes, scenario_bytes, number, second, exposure, factor_shock, series_shock};
 
 use crate::bytes::{i32_at, u16_at, u32_at};
-
-/// The kind number of factors.
-pub const FACTORS: u16 = 1;
-
-/// The kind number of series.
-pub const SERIES: u16 = 2;
-
-/// The kind number of strikes.
-pub const STRIKES: u16 = 3;
+use crate::kinds::Kind;
 
 /// The kind number.
 pub fn kind_of(file: &[u8]) -> u16
@@ -91,9 +85,9 @@ pub fn scenario_area_size(file: &[u8]) -> usize
     ensures value { result ≡ scenario_bytes file.now }
     ensures bound { result < 2 ^ 35 }
 {
-    match kind_of(file) {
-        FACTORS => 4 * (scenario_count(file) as usize * factor_count(file) as usize),
-        SERIES => 4 * (contract_count(file) as usize * scenario_count(file) as usize),
+    match Kind::try_from(kind_of(file)) {
+        Ok(Kind::Factors) => 4 * (scenario_count(file) as usize * factor_count(file) as usize),
+        Ok(Kind::Series) => 4 * (contract_count(file) as usize * scenario_count(file) as usize),
         _ => 0,
     }
 }

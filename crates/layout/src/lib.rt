@@ -4,3 +4,4 @@
 
 mod bytes;
 pub mod fields;
+pub mod kinds;

@@ -1,12 +1,12 @@
--- The first record with a number: a loop's start, step, hit and end.
-use Rattle.std.proofs.Common.{◌≡◌, ℕ, zero, suc, ◌+◌, ◌-◌, ◌<◌, ◌≤◌, true, false, cond, eqb, List, Some, None, Option, sym, refl, ap, ◌∙◌, subst, ⊎_elim, add-one, arith}
+-- The first record with a number.
+use Rattle.std.proofs.Common.{◌≡◌, ℕ, zero, suc, ◌+◌, ◌-◌, ◌<◌, ◌≤◌, true, false, cond, eqb, List, Some, None, Option, sym, refl, ap, ◌∙◌, subst, ⊎_elim, add-one, arith, MatchOption}
 use Rattle.std.proofs.lemmas.Bool.{cond-true, cond-false, eq-eqb, ne_eqb, cases_Bool, eqb-true}
 use Rattle.layout.specs.Fields.{contracts, number}
 use Rattle.inspection.proofs.Accepted.{Passes, small_number}
 use Rattle.sheets.specs.Sheets.{find}
 
 module _ (b : List ℕ) (c : ℕ) where
-  pub find_none : find b c 0 ≡ None
+  find_none : find b c 0 ≡ None
   unfolding find
   find_none = refl
 
@@ -20,7 +20,7 @@ module _ (b : List ℕ) (c : ℕ) where
   unfolding find
   kept j i e = ap (λ (o : Option ℕ). elim o [ Some h ↦ Some h | None ↦ cond (eqb (number b j) c) (Some j) None ]) e
 
-  pub find_more : (j : ℕ) → find b c j ≡ None → (number b j ≡ c → ⊥) → find b c (j + 1) ≡ None
+  find_more : (j : ℕ) → find b c j ≡ None → (number b j ≡ c → ⊥) → find b c (j + 1) ≡ None
   find_more j e ne = rw add-one (next j e ∙ cond-false _ _ _ (ne_eqb (number b j) c ne))
 
   stays : (j i n : ℕ) → find b c j ≡ Some i → find b c (n + j) ≡ Some i
@@ -29,7 +29,7 @@ module _ (b : List ℕ) (c : ℕ) where
       let q : suc (n + j) ≡ suc n + j = omega arith in
       subst (λ (x : ℕ). find b c x ≡ Some i) q (kept (n + j) i (stays j i n e))
 
-  pub find_hit : (j n : ℕ) → find b c j ≡ None → number b j ≡ c → j < n → Some j ≡ find b c n
+  find_hit : (j n : ℕ) → find b c j ≡ None → number b j ≡ c → j < n → Some j ≡ find b c n
   find_hit j n e h l =
       let f : find b c (suc j) ≡ Some j = next j e ∙ cond-true _ _ _ (eq-eqb (number b j) c h) in
       go (n - suc j) (omega arith) f
@@ -37,8 +37,14 @@ module _ (b : List ℕ) (c : ℕ) where
       go : (d : ℕ) → d + suc j ≡ n → find b c (suc j) ≡ Some j → Some j ≡ find b c n
       go d q f = sym (subst (λ (x : ℕ). find b c x ≡ Some j) q (stays (suc j) j d f))
 
-  pub find_all : (j n : ℕ) → find b c j ≡ None → j ≤ n → n ≤ j → None ≡ find b c n
-  find_all j n e a d = let q : j ≡ n = omega arith in sym (subst (λ (x : ℕ). find b c x ≡ None) q e)
+  none_before : (n : ℕ) → ((k : ℕ) → k < n → number b k ≡ c → ⊥) → find b c n ≡ None
+  none_before zero h = find_none
+  none_before (suc n) h = rw (← add-one n) (find_more n (none_before n (λ k l. h k (omega arith))) (h n (omega arith)))
+
+  -- what a search of the first n records finds
+  pub first_is : (n : ℕ) (r : Option ℕ) → MatchOption r ((k : ℕ) → 0 ≤ k → k < n → number b k ≡ c → ⊥) (λ i. (0 ≤ i) × (i < n) × (number b i ≡ c) × ((k : ℕ) → 0 ≤ k → k < i → number b k ≡ c → ⊥)) → r ≡ find b c n
+  first_is n None h = sym (none_before n (λ k l. h k (omega arith) l))
+  first_is n (Some i) h = find_hit i n (none_before i (λ k l. h.3 k (omega arith) l)) h.2 h.1
 
   -- a record that was found is one of those that were searched, and has the number
   pub found : (n i : ℕ) → find b c n ≡ Some i → (i < n) × (number b i ≡ c)

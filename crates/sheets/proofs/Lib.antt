@@ -1,4 +1,3 @@
-pub mod Fills
 pub mod Finds
 pub mod Records
 pub mod Sameness

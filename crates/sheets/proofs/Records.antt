@@ -1,5 +1,5 @@
 -- The bounds of the shocks of an accepted file.
-use Rattle.std.proofs.Common.{◌≡◌, ℕ, zero, suc, ◌+◌, ◌*◌, ◌/◌, ◌%◌, ◌<◌, ◌≤◌, cond, ◌&&◌, eqb, ltb, List, ℤ, pos, negsuc, ◌+ℤ◌, ◌*ℤ◌, neg_ℤ, nat_abs, sym, refl, ap, ◌∙◌, subst, add-one, arith, w64, SFits, to_z, of_z}
+use Rattle.std.proofs.Common.{◌≡◌, ℕ, zero, suc, ◌+◌, ◌*◌, ◌<◌, ◌≤◌, cond, ◌&&◌, eqb, ltb, List, ℤ, pos, negsuc, ◌+ℤ◌, ◌*ℤ◌, neg_ℤ, nat_abs, sym, refl, ap, ◌∙◌, subst, add-one, arith, w64, SFits, to_z, of_z}
 use native.Mathlib.Numerals.{unary_clauses}
 use lib.IntN.{*ℤ-zero}
 use Rattle.std.proofs.lemmas.Nat.{mul-le}
@@ -9,7 +9,7 @@ use Rattle.rounding.specs.Rounding.{parts, nearest}
 use Rattle.layout.specs.Fields.{kind, contracts, scenarios, factors, payoff, exposure, factor_shock, series_shock}
 use Rattle.inspection.specs.Causes.{wrong_kind}
 use Rattle.std.proofs.lemmas.Bool.Decides.{nat_tests}
-use Rattle.inspection.proofs.Accepted.{Passes, few_factors, few_scenarios, small_exposure, small_factor, small_series, small_payoff, unmoved_factor, unmoved_series}
+use Rattle.inspection.proofs.Accepted.{Passes, few_factors, small_exposure, small_factor, small_series, small_payoff, unmoved_factor, unmoved_series}
 use Rattle.sheets.specs.Sheets.{total_below, moved_by_factors, record_shock}
 use Rattle.sheets.specs.Cells.{shock_cell}
 
@@ -107,25 +107,20 @@ module _ (b : List ℕ) (p : Passes b) where
   unfolding record_shock
   strike_shock e j s = cond-false _ _ _ (ne_eqb (kind b) 1 (λ q. omega arith)) ∙ cond-false _ _ _ (ne_eqb (kind b) 2 (λ q. omega arith))
 
-  pub cell_small : (k : ℕ) → nat_abs (shock_cell b k) ≤ 100000000
+  pub cell_small : (j s : ℕ) → nat_abs (shock_cell b j s) ≤ 100000000
   unfolding shock_cell
-  cell_small k =
-      cond_both (ltb (k / 64) (contracts b) && ltb (k % 64) (scenarios b)) _ _ (λ z. nat_abs z ≤ 100000000)
-      (λ e. let q = and_parts _ _ e in shock_small (k / 64) (k % 64) (ltb-true _ _ q.0) (ltb-true _ _ q.1))
+  cell_small j s =
+      cond_both (ltb j (contracts b) && ltb s (scenarios b)) _ _ (λ z. nat_abs z ≤ 100000000)
+      (λ e. let q = and_parts _ _ e in shock_small j s (ltb-true _ _ q.0) (ltb-true _ _ q.1))
       (λ _. omega arith)
 
-  pub cell_unmoved : (j : ℕ) → shock_cell b (64 * j) ≡ pos 0
+  pub cell_unmoved : (j : ℕ) → shock_cell b j 0 ≡ pos 0
   unfolding shock_cell
   cell_unmoved j =
-      let m : (64 * j) % 64 ≡ 0 = omega arith in
-      cond_both (ltb ((64 * j) / 64) (contracts b) && ltb ((64 * j) % 64) (scenarios b)) _ _ (λ z. z ≡ pos 0)
-      (λ e. ap (record_shock b ((64 * j) / 64)) m ∙ shock_unmoved ((64 * j) / 64) (ltb-true _ _ (and_parts _ _ e).0))
+      cond_both (ltb j (contracts b) && ltb 0 (scenarios b)) _ _ (λ z. z ≡ pos 0)
+      (λ e. shock_unmoved j (ltb-true _ _ (and_parts _ _ e).0))
       (λ _. refl)
 
-  pub cell_is : (j s : ℕ) → j < contracts b → s < scenarios b → shock_cell b (64 * j + s) ≡ record_shock b j s
+  pub cell_is : (j s : ℕ) → j < contracts b → s < scenarios b → shock_cell b j s ≡ record_shock b j s
   unfolding shock_cell
-  cell_is j s l m =
-      let few = few_scenarios b p in
-      let q : (64 * j + s) / 64 ≡ j = omega arith in
-      let r : (64 * j + s) % 64 ≡ s = omega arith in
-      rw (q, r) (cond-true _ _ _ (and_from _ _ (lt-ltb j (contracts b) l) (lt-ltb s (scenarios b) m)))
+  cell_is j s l m = cond-true _ _ _ (and_from _ _ (lt-ltb j (contracts b) l) (lt-ltb s (scenarios b) m))

@@ -1,5 +1,5 @@
 -- The numbers that an accepted file is decoded into, and what a table of one subportfolio is made of. Assumes nothing.
-use Rattle.std.specs.Prelude.{◌≡◌, ℕ, ◌+◌, ◌*◌, ◌<◌, ◌≤◌, cond, List, ℤ, pos, Some, None, Option, ◌==◌, nat_lt, slice_index, slice_index_or, unsigned_abs}
+use Rattle.std.specs.Prelude.{◌≡◌, ℕ, ◌<◌, ◌≤◌, cond, List, [], ℤ, pos, Some, None, Option, ◌==◌, nat_lt, slice_index, slice_index_or, unsigned_abs}
 use Rattle.scenario.specs.Table.{ScenarioTable}
 
 -- the table of one subportfolio with n scenarios, where a contract has a record, and a record a multiplier and shocks
@@ -15,20 +15,20 @@ rows_table row n multiplier shock = record {
 abbrev pub record_in : List (Option ℕ) → ℕ → Option ℕ
 record_in records c = slice_index_or records c None
 
--- the shock of record j in scenario s, in a list with 64 places for each record
-abbrev pub cell_in : List ℤ → ℕ → ℕ → ℤ
-cell_in cells j s = slice_index_or cells (64 * j + s) (pos 0)
+-- the shock of record j in scenario s, in a list with a row for each record
+abbrev pub cell_in : List (List ℤ) → ℕ → ℕ → ℤ
+cell_in cells j s = slice_index_or (slice_index_or cells j []) s (pos 0)
 
 -- each record that a contract has is one of 64
 abbrev pub FewRecords : List (Option ℕ) → Type 0
 FewRecords records = (c j : ℕ) → slice_index_or records c None ≡ Some j → j < 64
 
-abbrev pub Within : List ℤ → Type 0
-Within cells = (k : ℕ) → unsigned_abs (slice_index_or cells k (pos 0)) ≤ 100000000
+abbrev pub Within : List (List ℤ) → Type 0
+Within cells = (j s : ℕ) → unsigned_abs (cell_in cells j s) ≤ 100000000
 
 -- in scenario 0 no record has moved
-abbrev pub Unmoved : List ℤ → Type 0
-Unmoved cells = (j : ℕ) → slice_index_or cells (64 * j) (pos 0) ≡ pos 0
+abbrev pub Unmoved : List (List ℤ) → Type 0
+Unmoved cells = (j : ℕ) → cell_in cells j 0 ≡ pos 0
 
 abbrev pub SmallMultipliers : List ℕ → Type 0
 SmallMultipliers ms = (j : ℕ) → slice_index ms j ≤ 10000

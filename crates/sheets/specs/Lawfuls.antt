@@ -1,13 +1,13 @@
 -- A table of one subportfolio, made of records, is lawful where its numbers keep their bounds.
 use Rattle.std.specs.Prelude.{◌≡◌, ℕ, ◌<◌, ◌≤◌, false, cond, List, length, ℤ, pos, negsuc, ◌≤ℤ◌, Some, None, Option, ◌==◌, ◌≢◌, nat_lt, unsigned_abs}
 use Rattle.std.proofs.Math.Path.{refl, ap, subst}
-use Rattle.std.proofs.Common.{sym, add-zero}
+use Rattle.std.proofs.Common.{sym}
 use native.Mathlib.Omega.{arith}
 use Rattle.std.proofs.lemmas.List.{get_or_past}
 use Rattle.std.proofs.lemmas.Int.{ints}
 use Rattle.std.proofs.lemmas.Bool.{cond_both, cond-false, ne_eqb, le-ltb, true≢false}
 use Rattle.scenario.specs.Table.{Lawful}
-use Rattle.sheets.specs.Decoded.{rows_table, record_in, cell_in, Unmoved}
+use Rattle.sheets.specs.Decoded.{rows_table, record_in}
 use Rattle.sheets.specs.Sheets.{empty_table}
 
 low : (x : ℤ) → unsigned_abs x ≤ 100000000 → negsuc 99999999 ≤ℤ x
@@ -77,10 +77,6 @@ module _ (row : ℕ → Option ℕ) (n : ℕ) (multiplier : ℕ → ℕ) (shock 
 -- a list of at most 256 records knows no contract from 256 on
 pub records_known : (records : List (Option ℕ)) → length records ≤ 256 → (c : ℕ) → 256 ≤ c → record_in records c ≡ None
 records_known records h c l = get_or_past records c None (omega arith)
-
--- scenario 0 of a table of cells
-pub cells_unmoved : (cells : List ℤ) → Unmoved cells → (j : ℕ) → cell_in cells j 0 ≡ pos 0
-cells_unmoved cells h j = rw add-zero (h j)
 
 pub empty_lawful : Lawful empty_table
 empty_lawful = rows_lawful (λ c. None) 1 (λ j. 0) (λ j s. pos 0) (omega arith) (omega arith) (λ c h. refl) (λ j. omega arith) (λ j. refl) (λ j s. omega arith)

@@ -1,5 +1,5 @@
 -- The tables of the kinds of sheet are lawful.
-use Rattle.std.specs.Prelude.{◌+◌, ◌*◌, ◌≤◌, cond, pos, ◌==◌, slice_index, unsigned_abs}
+use Rattle.std.specs.Prelude.{◌+◌, ◌≤◌, cond, pos, ◌==◌, slice_index, unsigned_abs}
 use Rattle.std.proofs.Common.{arith}
 use Rattle.std.proofs.lemmas.Bool.{cond_both, cond-false, ne_eqb}
 use Rattle.scenario.specs.Table.{Lawful}
@@ -10,17 +10,18 @@ use Rattle.sheets.specs.declared.kinds.Sheet.{Sheet}
 use Rattle.sheets.specs.declared.kinds.Sheet.TheVariants.{Empty, Factors, Series, Strikes}
 use Rattle.sheets.specs.Decoded.{record_in, cell_in}
 use Rattle.sheets.specs.Tables.{factor_table, series_table, strike_table, table_of}
-use Rattle.sheets.specs.Lawfuls.{rows_lawful, records_known, cells_unmoved, empty_lawful}
+use Rattle.sheets.specs.Lawfuls.{rows_lawful, records_known, empty_lawful}
 
 pub factor_lawful : (m : FactorSheet) → Lawful (factor_table m)
 factor_lawful m =
-    rows_lawful (record_in m.index.records) m.shocks.scenarios (λ j. slice_index m.multipliers.cells j) (cell_in m.shocks.cells) m.shocks.some m.shocks.few
-    (records_known m.index.records m.index.numbers) m.multipliers.small (cells_unmoved m.shocks.cells m.shocks.unmoved) (λ j s. m.shocks.within (64 * j + s))
+    let series = m.series in
+    rows_lawful (record_in series.index.records) series.shocks.scenarios (λ j. slice_index m.multipliers.cells j) (cell_in series.shocks.cells) series.shocks.some series.shocks.few
+    (records_known series.index.records series.index.numbers) m.multipliers.small series.shocks.unmoved series.shocks.within
 
 pub series_lawful : (m : SeriesSheet) → Lawful (series_table m)
 series_lawful m =
     rows_lawful (record_in m.index.records) m.shocks.scenarios (λ j. 0) (cell_in m.shocks.cells) m.shocks.some m.shocks.few
-    (records_known m.index.records m.index.numbers) (λ j. omega arith) (cells_unmoved m.shocks.cells m.shocks.unmoved) (λ j s. m.shocks.within (64 * j + s))
+    (records_known m.index.records m.index.numbers) (λ j. omega arith) m.shocks.unmoved m.shocks.within
 
 pub strike_lawful : (m : StrikeSheet) → Lawful (strike_table m)
 strike_lawful m =

@@ -1,7 +1,7 @@
 -- What each kind of sheet means, by the numbers that it keeps. Assumes nothing.
 use Rattle.std.specs.Prelude.{◌≡◌, ℕ, ◌+◌, cond, List, pos, Some, None, Option, ◌==◌, slice_index}
 use Rattle.scenario.specs.Table.{ScenarioTable}
-use Rattle.inspection.specs.declared.Kind.{Kind}
+use Rattle.layout.specs.declared.kinds.Kind.{Kind}
 use Rattle.layout.specs.Fields.{kind, contracts}
 use Rattle.sheets.specs.declared.kinds.FactorSheet.{FactorSheet}
 use Rattle.sheets.specs.declared.kinds.SeriesSheet.{SeriesSheet}
@@ -12,7 +12,7 @@ use Rattle.sheets.specs.Decoded.{rows_table, record_in, cell_in}
 use Rattle.sheets.specs.Sheets.{sheet_table, empty_table}
 
 abbrev pub factor_table : FactorSheet → ScenarioTable
-factor_table m = rows_table (record_in m.index.records) m.shocks.scenarios (λ j. slice_index m.multipliers.cells j) (cell_in m.shocks.cells)
+factor_table m = rows_table (record_in m.series.index.records) m.series.shocks.scenarios (λ j. slice_index m.multipliers.cells j) (cell_in m.series.shocks.cells)
 
 abbrev pub series_table : SeriesSheet → ScenarioTable
 series_table m = rows_table (record_in m.index.records) m.shocks.scenarios (λ j. 0) (cell_in m.shocks.cells)
@@ -43,7 +43,7 @@ kind_of_sheet (Strikes m) = Some Kind.Strikes
 -- how many contracts it knows
 abbrev pub contracts_in : Sheet → ℕ
 contracts_in (Empty m) = 0
-contracts_in (Factors m) = m.index.count
+contracts_in (Factors m) = m.series.index.count
 contracts_in (Series m) = m.index.count
 contracts_in (Strikes m) = m.index.count
 

@@ -1,66 +1,65 @@
 //! A sheet is filled from a file, or stays as it was.
 
-ghost use Rattle.std.specs.Prelude.{◌≡◌, true, MatchResult};
+ghost use Rattle.std.specs.Prelude.{◌≡◌, MatchResult};
 ghost use Rattle.refusals.specs.Numbers.{refusal_of};
 ghost use Rattle.layout.specs.Fields.{kind, contracts};
-ghost use Rattle.inspection.specs.Causes.{accepted, sheet_cause};
-ghost use Rattle.inspection.specs.Kinds.{kind_number};
+ghost use Rattle.inspection.specs.Causes.{sheet_cause};
 ghost use Rattle.sheets.specs.Sheets.{sheet_table, empty_table};
 ghost use Rattle.sheets.specs.Tables.{factor_table, series_table, strike_table, table_of, kind_in, contracts_in, kind_of_sheet, Holds};
 
-use crate::decode::{read_index, read_multipliers, read_shocks};
+use crate::accepted::{Accepted, Factors};
 use crate::kinds::{EmptySheet, FactorSheet, SeriesSheet, Sheet, StrikeSheet};
 use inspection::{Kind, inspect};
 use layout::fields::payoff_field;
 use refusals::Refusal;
 
-fn read_factors(file: &[u8]) -> FactorSheet
-    requires passed { accepted file.now ≡ true }
-    requires factored { kind file.now ≡ 1 }
-    ensures means { factor_table result ≡ sheet_table file.now }
-    ensures counted { result.index.count ≡ contracts file.now }
-{
-    FactorSheet {
-        index: read_index(file),
-        multipliers: read_multipliers(file),
-        shocks: read_shocks(file),
+impl Accepted<'_> {
+    fn read_factors(&self) -> FactorSheet
+        requires { kind self.now.file.now ≡ 1 }
+        ensures means { factor_table result ≡ sheet_table self.now.file.now }
+        ensures counted { result.series.index.count ≡ contracts self.now.file.now }
+    {
+        let series = SeriesSheet {
+            index: self.read_index(),
+            shocks: self.read_shocks(),
+        };
+        FactorSheet {
+            series,
+            multipliers: Factors { file: self.file }.read_multipliers(),
+        }
     }
-}
 
-fn read_series(file: &[u8]) -> SeriesSheet
-    requires passed { accepted file.now ≡ true }
-    requires listed { kind file.now ≡ 2 }
-    ensures means { series_table result ≡ sheet_table file.now }
-    ensures counted { result.index.count ≡ contracts file.now }
-{
-    SeriesSheet {
-        index: read_index(file),
-        shocks: read_shocks(file),
+    fn read_series(&self) -> SeriesSheet
+        requires { kind self.now.file.now ≡ 2 }
+        ensures means { series_table result ≡ sheet_table self.now.file.now }
+        ensures counted { result.index.count ≡ contracts self.now.file.now }
+    {
+        SeriesSheet {
+            index: self.read_index(),
+            shocks: self.read_shocks(),
+        }
     }
-}
 
-fn read_strikes(file: &[u8]) -> StrikeSheet
-    requires passed { accepted file.now ≡ true }
-    requires struck { kind file.now ≡ 3 }
-    ensures means { strike_table result ≡ sheet_table file.now }
-    ensures counted { result.index.count ≡ contracts file.now }
-{
-    StrikeSheet {
-        index: read_index(file),
-        payoff: payoff_field(file),
+    fn read_strikes(&self) -> StrikeSheet
+        requires { kind self.now.file.now ≡ 3 }
+        ensures means { strike_table result ≡ sheet_table self.now.file.now }
+        ensures counted { result.index.count ≡ contracts self.now.file.now }
+    {
+        StrikeSheet {
+            index: self.read_index(),
+            payoff: payoff_field(self.file),
+        }
     }
-}
 
-// The sheet of an accepted file.
-fn read_sheet(file: &[u8], of: Kind) -> Sheet
-    requires passed { accepted file.now ≡ true }
-    requires named { kind_number of ≡ kind file.now }
-    ensures { Holds result file.now }
-{
-    match of {
-        Kind::Factors => Sheet::Factors(read_factors(file)),
-        Kind::Series => Sheet::Series(read_series(file)),
-        Kind::Strikes => Sheet::Strikes(read_strikes(file)),
+    // The sheet that the file means.
+    fn read_sheet(&self) -> Sheet
+        ensures { Holds result self.now.file.now }
+    {
+        match self.of {
+            Kind::Factors => Sheet::Factors(self.read_factors()),
+            Kind::Series => Sheet::Series(self.read_series()),
+            Kind::Strikes => Sheet::Strikes(self.read_strikes()),
+        }
     }
 }
 
@@ -80,7 +79,7 @@ impl Sheet {
         ensures holds { MatchResult result (λ _. Holds self.new file.now) (λ _. self.new ≡ self.old) }
     {
         let kind = inspect(file)?;
-        *self = read_sheet(file, kind);
+        *self = Accepted { file, of: kind }.read_sheet();
         Ok(())
     }
 
@@ -102,7 +101,7 @@ impl Sheet {
     {
         match self {
             Sheet::Empty(_) => 0,
-            Sheet::Factors(m) => m.index.count,
+            Sheet::Factors(m) => m.series.index.count,
             Sheet::Series(m) => m.index.count,
             Sheet::Strikes(m) => m.index.count,
         }

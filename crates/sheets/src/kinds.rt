@@ -10,19 +10,19 @@ use crate::shocks::Shocks;
 #[derive(Clone, Copy)]
 pub struct EmptySheet;
 
-/// A sheet of factors: contracts have a multiplier and exposures to factors that move.
-#[derive(Clone, Copy)]
-pub struct FactorSheet {
-    pub(crate) index: Index,
-    pub(crate) multipliers: Multipliers,
-    pub(crate) shocks: Shocks,
-}
-
 /// A sheet of series: contracts have a shock in each scenario.
 #[derive(Clone, Copy)]
 pub struct SeriesSheet {
     pub(crate) index: Index,
     pub(crate) shocks: Shocks,
+}
+
+/// A sheet of factors: contracts have a multiplier, and a shock in each scenario from their exposures to factors that
+/// move.
+#[derive(Clone, Copy)]
+pub struct FactorSheet {
+    pub(crate) series: SeriesSheet,
+    pub(crate) multipliers: Multipliers,
 }
 
 /// A sheet of strikes: each contract gains the payoff in one scenario of its own.

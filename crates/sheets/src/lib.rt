@@ -2,6 +2,7 @@
 
 #![tactic(auto)]
 
+mod accepted;
 mod decode;
 mod filling;
 pub mod index;

@@ -28,7 +28,7 @@ impl Shocks {
         ensures { result ≡ (if nat_lt scenario self.now.scenarios then cell_in self.now.cells j scenario else pos 0) }
     {
         if scenario < self.scenarios {
-            self.cells[64 * j as usize + scenario as usize] as i64
+            i64::from(self.cells[j as usize][scenario as usize])
         } else {
             0
         }
@@ -57,34 +57,6 @@ impl ScenarioModel for EmptySheet {
     }
 }
 
-impl ScenarioModel for FactorSheet {
-    ghost table = { factor_table };
-
-    ghost lawful = { λ m. factor_lawful m };
-
-    fn subportfolios(&self) -> u8 {
-        1
-    }
-
-    fn scenarios(&self, k: u8) -> u8 {
-        if k == 0 { self.shocks.scenarios } else { 0 }
-    }
-
-    fn place(&self, contract: u8) -> Option<(u8, u16)> {
-        match self.index.record(contract) {
-            Some(j) => Some((0, self.multipliers.cells[j as usize])),
-            None => None,
-        }
-    }
-
-    fn shock(&self, contract: u8, scenario: u8) -> i64 {
-        match self.index.record(contract) {
-            Some(j) => self.shocks.at(j, scenario),
-            None => 0,
-        }
-    }
-}
-
 impl ScenarioModel for SeriesSheet {
     ghost table = { series_table };
 
@@ -99,17 +71,36 @@ impl ScenarioModel for SeriesSheet {
     }
 
     fn place(&self, contract: u8) -> Option<(u8, u16)> {
-        match self.index.record(contract) {
-            Some(_) => Some((0, 0)),
-            None => None,
-        }
+        self.index.record(contract).map(|_| (0, 0))
     }
 
     fn shock(&self, contract: u8, scenario: u8) -> i64 {
-        match self.index.record(contract) {
-            Some(j) => self.shocks.at(j, scenario),
-            None => 0,
-        }
+        self.index
+            .record(contract)
+            .map_or(0, |j| self.shocks.at(j, scenario))
+    }
+}
+
+impl ScenarioModel for FactorSheet {
+    ghost table = { factor_table };
+
+    ghost lawful = { λ m. factor_lawful m };
+
+    fn subportfolios(&self) -> u8 {
+        1
+    }
+
+    fn scenarios(&self, k: u8) -> u8 {
+        self.series.scenarios(k)
+    }
+
+    fn place(&self, contract: u8) -> Option<(u8, u16)> {
+        let j = self.series.index.record(contract)?;
+        Some((0, self.multipliers.cells[j as usize]))
+    }
+
+    fn shock(&self, contract: u8, scenario: u8) -> i64 {
+        self.series.shock(contract, scenario)
     }
 }
 
@@ -131,10 +122,7 @@ impl ScenarioModel for StrikeSheet {
     }
 
     fn place(&self, contract: u8) -> Option<(u8, u16)> {
-        match self.index.record(contract) {
-            Some(_) => Some((0, 0)),
-            None => None,
-        }
+        self.index.record(contract).map(|_| (0, 0))
     }
 
     fn shock(&self, contract: u8, scenario: u8) -> i64 {
@@ -156,6 +144,7 @@ impl ScenarioModel for Sheet {
     }
 
     fn scenarios(&self, k: u8) -> u8 {
+        // Kept by arms, here and below: the kinds are closed, and no function may hand out a `dyn` model.
         match self {
             Sheet::Empty(m) => m.scenarios(k),
             Sheet::Factors(m) => m.scenarios(k),

@@ -7,7 +7,7 @@ ghost use Rattle.sheets.specs.Decoded.{Within, Unmoved};
 #[derive(Clone, Copy)]
 pub struct Shocks {
     pub(crate) scenarios: u8,
-    pub(crate) cells: [i32; 4096],
+    pub(crate) cells: [[i32; 64]; 64],
     ghost some: { 1 ≤ scenarios },
     ghost few: { scenarios ≤ 64 },
     ghost within: { Within cells },

@@ -11,4 +11,5 @@ loop-scenario-init g c = sym (append-nil _)
 pub loop-scenario-preserved : goal.loop-scenario-preserved
 loop-scenario-preserved g c =
     let fits : SFits w64 c.shock.result = search rules in
-    shocks_more _ _ _ _ _ _ _ _ c.in_ok-add_shock.ensures c.loop-scenario.invariant (to_z-of_z w64 c.shock.result fits) c.shock.ensures
+    let h = c.in_ok-write.ensures.bytes in
+    shocks_more _ _ _ _ _ _ _ _ h c.loop-scenario.invariant (to_z-of_z w64 c.shock.result fits) c.shock.ensures
