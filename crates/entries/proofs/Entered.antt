@@ -1,5 +1,5 @@
 -- A row more, and the table of a day that has no contract. Assumes nothing.
-use Rattle.std.proofs.Common.{◌≡◌, ℕ, ◌<◌, ◌≤◌, Bool, true, false, cond, not, ◌&&◌, ltb, List, [], ◌∷◌, ◌++◌, map, length, ℤ, pos, is_some, Some, None, Option, sym, refl, ap, ◌∙◌, arith}
+use Rattle.std.proofs.Common.{◌≡◌, ℕ, ◌<◌, ◌≤◌, Bool, true, false, not, ◌&&◌, ltb, List, [], ◌∷◌, ◌++◌, map, length, ℤ, pos, is_some, Some, None, Option, sym, refl, ap, ◌∙◌, arith}
 use Rattle.std.proofs.lemmas.List.{map_push, length-map}
 use Rattle.std.proofs.lemmas.Bool.{lt-ltb, le-ltb, false≢true}
 use Rattle.scenario.specs.Table.{ScenarioTable}
@@ -14,9 +14,8 @@ abbrev pub no_contracts : ScenarioTable
 no_contracts = record { subportfolios = 1; scenarios = λ k. 1; place = λ c. None; shock = λ c s. pos 0 }
 
 -- a row more, by what it means
-pub pushed : {X Y : Type 0} (f : X → Y) (xs ys : List X) (x : X) (y : Y) (t : Bool) → t ≡ true → ys ≡ cond t (xs ++ x ∷ []) xs → f x ≡ y → map f ys ≡ map f xs ++ y ∷ []
-pushed f xs ys x y true e h q = ap (map f) h ∙ map_push f xs x ∙ ap (λ v. map f xs ++ v ∷ []) q
-pushed f xs ys x y false e h q = absurd (false≢true e)
+pub pushed : {X Y : Type 0} (f : X → Y) (xs ys : List X) (x : X) (y : Y) → ys ≡ xs ++ x ∷ [] → f x ≡ y → map f ys ≡ map f xs ++ y ∷ []
+pushed f xs ys x y h q = ap (map f) h ∙ map_push f xs x ∙ ap (λ v. map f xs ++ v ∷ []) q
 
 -- whether a table is full, by the number of its rows
 pub not_full : {X Y : Type 0} (f : X → Y) (xs : List X) (n k : ℕ) → n ≡ length xs → n < k → not (ltb (length (map f xs)) k) ≡ false

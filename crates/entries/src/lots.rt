@@ -47,9 +47,7 @@ fn fair_position(book: &Book, contract: u8, lot: Lot) -> Result<Position, Refusa
     if book.trades.len() >= MOST_TRADES {
         return Err(Refusal::TableFull);
     }
-    let Some(position) = position_of_lot(contract, lot) else {
-        return Err(Refusal::OutOfRange);
-    };
+    let position = position_of_lot(contract, lot).ok_or(Refusal::OutOfRange)?;
     if book.prices.get(contract).is_none() {
         return Err(Refusal::NoPrice);
     }
@@ -68,6 +66,6 @@ pub(crate) fn enter_lot(
 {
     let position = fair_position(book, contract, lot)?;
     let number = book.trades.len();
-    book.trades.enter(Trade { trader, position }, client);
+    book.trades.enter(Trade { trader, position }, client)?;
     Ok(number as u64)
 }

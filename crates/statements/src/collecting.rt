@@ -69,7 +69,7 @@ pub(crate) fn collect(cells: &[TradeCell], asked: Asked) -> Rows<Position, 1024>
     let mut found = Rows::of([unfilled; MOST_POSITIONS]);
     for cell in cells {
         if let Some(position) = asked.position_in(cell) {
-            found.push(position);
+            let _ = found.push(position);
         }
     }
     found

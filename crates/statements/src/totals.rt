@@ -29,7 +29,7 @@ fn deficits_of(clients: &[ClientFigures]) -> Rows<Deficit, 128>
     };
     let mut found = Rows::of([nothing; MOST_DEFICITS]);
     for client in clients {
-        found.push(Deficit {
+        let _ = found.push(Deficit {
             amount: client.deficit,
             client: client.number,
         });

@@ -6,7 +6,7 @@ use figures::position::Position;
 use refusals::Refusal;
 
 /// A trade: whose it is, and what was traded.
-#[derive(Clone, Copy)]
+#[derive(Clone, Copy, Debug, PartialEq, Eq)]
 pub struct Trade {
     /// Its trader's number.
     pub trader: u8,
@@ -15,7 +15,7 @@ pub struct Trade {
 }
 
 /// The cell of a trade.
-#[derive(Clone, Copy)]
+#[derive(Clone, Copy, Debug, PartialEq, Eq)]
 pub enum TradeCell {
     /// No trade is in it.
     Empty,
@@ -28,7 +28,7 @@ pub enum TradeCell {
 }
 
 /// What can be asked of a trade.
-#[derive(Clone, Copy)]
+#[derive(Clone, Copy, Debug, PartialEq, Eq)]
 pub enum Change {
     /// That it goes to a client.
     Specify(u8),

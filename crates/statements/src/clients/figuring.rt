@@ -104,7 +104,7 @@ pub(crate) fn all_figures<M: ScenarioModel>(
     let mut found = no_figures();
     for number in 0..book.client_count() {
         if let Some(figures) = figures_if(model, book, trader, number) {
-            found.push(figures);
+            let _ = found.push(figures);
         }
     }
     found
