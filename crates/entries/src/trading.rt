@@ -25,11 +25,9 @@ pub fn set_price(book: &mut Book, placed: Option<u8>, price: u64) -> Result<(), 
     let Ok(ticks) = u32::try_from(price) else {
         return Err(Refusal::OutOfRange);
     };
-    if book.prices.set(contract, ticks) {
-        Ok(())
-    } else {
-        Err(Refusal::OutOfRange)
-    }
+    book.prices
+        .set(contract, ticks)
+        .map_err(|_| Refusal::OutOfRange)
 }
 
 /// Enters a trade of a trader, and answers its number. Its contract is `placed` where the model knows it.

@@ -1,5 +1,4 @@
 pub mod Asking
-pub mod Losing
 pub mod Marking
 pub mod Owing
 pub mod Reading

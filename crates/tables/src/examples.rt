@@ -54,16 +54,13 @@ impl Example {
         ensures holds { MatchResult result (λ _. Holds self.new.sheet file.now) (λ _. self.new ≡ self.old) }
         ensures blank { OnOk result ((self.new.prices.ticks ≡ replicate 256 None) × (self.new.positions.items ≡ [])) }
     {
-        match self.sheet.fill(file) {
-            Ok(()) => {
-                self.clear();
-                Ok(())
-            }
-            Err(refusal) => Err(refusal),
-        }
+        self.sheet.fill(file)?;
+        self.clear();
+        Ok(())
     }
 
     // Takes over a step, and tells whether it could.
+    // Kept as a bool in the `Result`: want of memory ends the program, and a step that cannot be taken over is one more row to answer.
     fn take_step(&mut self, step: Step) -> Result<bool, AllocError>
         ensures said { IfOk result (λ b. b ≡ taken (step_of step)) }
         ensures sheet { self.new.sheet ≡ self.old.sheet }
@@ -75,7 +72,7 @@ impl Example {
                 self.clear();
                 Ok(true)
             }
-            Step::Price(contract, ticks) => Ok(self.prices.set(contract, ticks)),
+            Step::Price(contract, ticks) => Ok(self.prices.set(contract, ticks).is_ok()),
             Step::Trade(position) => {
                 self.positions.push(position)?;
                 Ok(true)

@@ -19,8 +19,7 @@ use money::vaults::pay_out;
 use orders::Holder;
 use refusals::Refusal;
 use scenario::ScenarioModel;
-use statements::needs::need_of;
-use statements::stating::limit_of;
+use statements::days::Day;
 
 // Whether an amount less leaves a client's collateral below what it needs now, or needed when the session was opened.
 fn leaves_less(client: Client, need: i64, amount: i64) -> bool
@@ -42,7 +41,7 @@ fn is_short<M: ScenarioModel>(model: &M, book: &Book, holder: Holder, amount: i6
     let Some(row) = book.client(client) else {
         return unreachable();
     };
-    let Some(need) = need_of(model, book, client) else {
+    let Some(need) = (Day { model, book }).need_of(client) else {
         return unreachable();
     };
     leaves_less(row, need, amount)
@@ -75,15 +74,16 @@ fn is_uncovered<M: ScenarioModel>(
     requires small { unsigned_abs amount ≤ 1000000000000000 }
     ensures { result ≡ (short (M.ScenarioModel.table model.now) (ledger_in book.now) (holder_of holder) amount || int_lt (limit (M.ScenarioModel.table model.now) (ledger_in tried.now) (holders_trader (ledger_in book.now) (holder_of holder))) (pos 0)) }
 {
-    is_short(model, book, holder, amount) || limit_of(model, tried, trader_of(book, holder)) < 0
+    let then = Day { model, book: tried };
+    is_short(model, book, holder, amount) || then.limit_of(trader_of(book, holder)) < 0
 }
 
 // Whether a cancellation that was tried lowers a trader's limit, and to below zero.
 fn is_sunk<M: ScenarioModel>(model: &M, book: &Book, tried: &Book, trader: u8) -> bool
     ensures { result ≡ (int_lt (limit (M.ScenarioModel.table model.now) (ledger_in tried.now) trader) (limit (M.ScenarioModel.table model.now) (ledger_in book.now) trader) && int_lt (limit (M.ScenarioModel.table model.now) (ledger_in tried.now) trader) (pos 0)) }
 {
-    let left = limit_of(model, tried, trader);
-    left < limit_of(model, book, trader) && left < 0
+    let left = (Day { model, book: tried }).limit_of(trader);
+    left < (Day { model, book }).limit_of(trader) && left < 0
 }
 
 impl<M: ScenarioModel> Session<M> {
