@@ -21,11 +21,9 @@ pub fn set_price(book: &mut Book, placed: Option<u8>, price: u64) -> Result<(), 
 {
     let contract = placed.ok_or(Refusal::Unknown)?;
     let ticks = u32::try_from(price).or(Err(Refusal::OutOfRange))?;
-    if book.prices.set(contract, ticks) {
-        Ok(())
-    } else {
-        Err(Refusal::OutOfRange)
-    }
+    book.prices
+        .set(contract, ticks)
+        .or(Err(Refusal::OutOfRange))
 }
 
 /// Enters a trade of a trader, and answers its number. Its contract is `placed` where the model knows it.

@@ -1,9 +1,13 @@
 -- Sums and greatest values over the numbers below n. Assumes nothing.
-use Rattle.std.proofs.Common.{◌≡◌, ℕ, zero, suc, ◌*◌, ◌<◌, ◌≤◌, Bool, true, false, cond, ℤ, ◌+ℤ◌, nat_abs, ◌≤ℤ◌, refl, mul-suc, arith}
+use Rattle.std.proofs.Common.{◌≡◌, ℕ, zero, suc, ◌*◌, ◌<◌, ◌≤◌, Bool, true, false, cond, List, [], ◌∷◌, length, take, fold, unwrap_or, ℤ, pos, ◌+ℤ◌, nat_abs, ◌≤ℤ◌, sym, refl, ap, ◌∙◌, mul-suc, add-one, arith, take_all}
 use native.Mathlib.Decide.{ℕ_discrete}
 use lib.Signed.{lt_z}
 use Rattle.std.specs.Int.{int_max}
+use Rattle.std.specs.List.{reduce}
+use Rattle.std.specs.Ordering.{int_cmp, max_by_ordering}
 use Rattle.std.proofs.lemmas.Int.{ints, clamps}
+use Rattle.std.proofs.lemmas.List.Sums.{fold_more}
+use Rattle.figures.specs.Losses.{at}
 use Rattle.figures.specs.Sums.{total_below, greatest_below}
 
 pub below_mono : (n : ℕ) (f g : ℕ → ℤ) → ((j : ℕ) → j < n → f j ≤ℤ g j) → total_below n f ≤ℤ total_below n g
@@ -64,3 +68,18 @@ argmax_below (suc n) f l = go n (lt_z (greatest_below n f) (f n)) (argmax_below 
     go n true h = omega arith
     go zero false h = omega arith
     go (suc m) false h = omega (arith, h (omega arith))
+
+-- ---- the greatest of a row, one after the other
+
+pub picked : (x y : ℤ) → max_by_ordering (int_cmp x y) x y ≡ int_max x y
+picked x y = grind (arith, ints, clamps)
+
+greatest_front : (x : ℤ) (ys : List ℤ) (i : ℕ) → i ≤ length ys → greatest_below (suc i) (at (x ∷ ys)) ≡ fold int_max x (take i ys)
+greatest_front x ys zero h = omega (arith, ints, clamps)
+greatest_front x ys (suc i) h =
+    let before = greatest_front x ys i (omega arith) in
+    ap (λ z. int_max z (at ys i)) before ∙ sym (rw (← add-one) (fold_more int_max x ys i (pos 0) h))
+
+pub greatest_reduced : (xs : List ℤ) → unwrap_or (reduce int_max xs) (pos 0) ≡ greatest_below (length xs) (at xs)
+greatest_reduced [] = refl
+greatest_reduced (x ∷ ys) = ap (fold int_max x) (sym (take_all (length ys) ys (omega arith))) ∙ sym (greatest_front x ys (length ys) (omega arith))

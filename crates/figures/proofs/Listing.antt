@@ -1,8 +1,10 @@
 -- Lists over the numbers below n, one number more at a time. Assumes nothing.
-use Rattle.std.proofs.Common.{◌≡◌, ℕ, zero, suc, ◌+◌, ◌≤◌, Bool, true, false, cond, List, [], ◌∷◌, ◌++◌, map, length, sym, refl, ap, ◌∙◌, add-one, arith}
+use Rattle.std.proofs.Common.{◌≡◌, ℕ, zero, suc, ◌+◌, ◌≤◌, Bool, true, false, cond, List, [], ◌∷◌, ◌++◌, map, length, ℤ, ◌+ℤ◌, nat_abs, sym, refl, ap, ◌∙◌, add-one, arith}
+use Rattle.std.proofs.lemmas.Int.{ints}
 use Rattle.std.proofs.lemmas.List.{append-nil, map-append, length_push}
 use Rattle.std.proofs.lemmas.Bool.{cond-true, cond-false}
-use Rattle.figures.specs.Sums.{those_below}
+use Rattle.figures.specs.Losses.{at}
+use Rattle.figures.specs.Sums.{total, total_below, those_below}
 
 those_more : (n : ℕ) (p : ℕ → Bool) → those_below (n + 1) p ≡ those_below n p ++ cond (p n) (n ∷ []) []
 those_more n p = rw add-one
@@ -31,3 +33,21 @@ length_those (suc n) p = omega (arith, length_those n p, length_one (p n) n (tho
 pub map_same : {A B : Type 0} (f g : A → B) (xs : List A) → ((x : A) → f x ≡ g x) → map f xs ≡ map g xs
 map_same f g [] e = refl
 map_same f g (x ∷ xs) e = λ i. e x i ∷ map_same f g xs e i
+
+-- the sum of f over the numbers below n
+pub total_those : (f : ℕ → ℤ) (n : ℕ) → total (λ x. x) (map f (those_below n (λ _. true))) ≡ total_below n f
+total_those f zero = refl
+total_those f (suc n) =
+    ap (total (λ (x : ℤ). x)) (map-append f (those_below n (λ _. true)) (n ∷ []))
+    ∙ total_push (map f (those_below n (λ _. true))) (f n)
+    ∙ ap (λ s. s +ℤ f n) (total_those f n)
+  where
+    total_push : (xs : List ℤ) (y : ℤ) → total (λ x. x) (xs ++ y ∷ []) ≡ total (λ x. x) xs +ℤ y
+    total_push [] y = omega (arith, ints)
+    total_push (x ∷ xs) y = omega (arith, ints, total_push xs y)
+
+-- each is small
+pub each_small : (f : ℕ → ℤ) (b : ℕ) → ((j : ℕ) → nat_abs (f j) ≤ b) → (ks : List ℕ) (s : ℕ) → nat_abs (at (map f ks) s) ≤ b
+each_small f b h [] s = omega arith
+each_small f b h (k ∷ ks) zero = h k
+each_small f b h (k ∷ ks) (suc s) = each_small f b h ks s

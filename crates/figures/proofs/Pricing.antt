@@ -1,11 +1,8 @@
--- Prices stay low, and whether every position has one. Assumes nothing.
-use Rattle.std.proofs.Common.{◌≡◌, ℕ, ◌<◌, ◌≤◌, true, leb, List, length, set, replicate, Some, None, Option, sym, subst, inl, inr, arith}
-use Rattle.std.proofs.lemmas.List.{get_or-set_same, get_or-set_other, get_or-replicate, get_or_past, length-replicate, length-map}
-use Rattle.std.proofs.lemmas.Bool.{cases_eq, cases_lt, and_parts, leb-true}
-use Rattle.figures.specs.declared.position.Position.{Position as Kept}
-use Rattle.figures.specs.declared.prices.Prices.{Prices}
-use Rattle.figures.specs.Markets.{all_priced, answerable}
-use Rattle.figures.specs.Positions.{position_of, positions_of}
+-- Prices stay low, and figures that could be worked out. Assumes nothing.
+use Rattle.std.proofs.Common.{◌≡◌, ℕ, ◌<◌, ◌≤◌, Bool, true, false, List, length, set, replicate, ℤ, Some, None, Option, sym, refl, subst, inl, inr, arith}
+use Rattle.std.proofs.lemmas.List.{get_or-set_same, get_or-set_other, get_or-replicate, get_or_past, length-replicate}
+use Rattle.std.proofs.lemmas.Bool.{cases_eq, cases_lt}
+use Rattle.figures.specs.Markets.{figure_if}
 use Rattle.figures.specs.Priced.{priced}
 
 abbrev Low : Option ℕ → Type 0
@@ -27,8 +24,7 @@ low_set ps i p l h old c =
       | inr ne ↦ subst Low (sym (get_or-set_other ps i c (Some p) None ne)) (old c)
     ]
 
--- few enough positions
-pub few_of : (ps : Prices) (xs : List Kept) → answerable ps (positions_of xs) ≡ true → length xs ≤ 1024
-few_of ps xs e =
-    let p = and_parts (leb (length (positions_of xs)) 1024) (all_priced ps (positions_of xs)) e in
-    omega (arith, leb-true (length (positions_of xs)) 1024 p.0, length-map xs position_of)
+-- a figure that was worked out could be, and is the one
+pub figure_some : (b : Bool) (x v : ℤ) → Some x ≡ figure_if b v → (b ≡ true) × (x ≡ v)
+figure_some true x v e = (refl, cc)
+figure_some false x v e = let z : ◌≡◌ {A = ℕ} 0 1 = cc in absurd (omega arith)

@@ -1,9 +1,6 @@
 -- The size of a product of integers, and how the code's 64 bits hold it.
 use Rattle.std.proofs.Common.{◌≡◌, ℕ, zero, suc, ◌+◌, ◌*◌, ◌≤◌, ℤ, pos, negsuc, ◌+ℤ◌, ◌-ℤ◌, ◌*ℤ◌, neg_ℤ, nat_abs, ◌≤ℤ◌, sym, refl, ◌∙◌, subst, mul-le-mul, mul-one, mul-add, arith, w32, w64, SFits, to_z, of_z}
 use Rattle.std.proofs.lemmas.Int.{ints}
-use Rattle.figures.specs.declared.counting.Counting.{Counting}
-use Rattle.figures.specs.declared.counting.Counting.TheVariants.{Together, Alone}
-use Rattle.figures.specs.Losses.{most_lost}
 
 nat_abs_neg : (n : ℕ) → nat_abs (neg_ℤ (pos n)) ≡ n
 nat_abs_neg zero = refl
@@ -80,12 +77,16 @@ both_kept a b h k = omega (arith, ints)
 pub both_fit : (a b : ℤ) → nat_abs a ≤ 4000000000000000000 → nat_abs b ≤ 4000000000000000000 → SFits w64 (to_z w64 (of_z w64 a) +ℤ to_z w64 (of_z w64 b))
 both_fit a b h k = omega (arith, ints)
 
-pub most_lost_small : (how : Counting) → most_lost how ≤ 11000000000000
-most_lost_small Together = omega arith
-most_lost_small Alone = omega arith
-
 pub most_more : (m i : ℕ) → m * i + m ≤ m * (i + 1)
 most_more m i = omega (arith, mul-add m i 1, mul-one m)
 
-pub most_within : (how : Counting) (i : ℕ) → i ≤ 1024 → most_lost how * i ≤ 11264000000000000
-most_within how i h = omega (arith, mul-le-mul (most_lost_small how) h)
+pub most_within : (m i : ℕ) → m ≤ 11000000000000 → i ≤ 1024 → m * i ≤ 11264000000000000
+most_within m i h k = omega (arith, mul-le-mul h k)
+
+pub less_kept : (a b : ℤ) → nat_abs a ≤ 10240000000000000 → nat_abs b ≤ 10240000000000000 → to_z w64 (of_z w64 (to_z w64 (of_z w64 a) -ℤ to_z w64 (of_z w64 b))) ≡ a -ℤ b
+less_kept a b h k = omega (arith, ints)
+
+pub beyond_small : (a b o r : ℤ) → nat_abs a ≤ 10240000000000000 → nat_abs b ≤ 10240000000000000 → nat_abs o ≤ 10240000000000000 → nat_abs r ≤ nat_abs (to_z w64 (of_z w64 (to_z w64 (of_z w64 a) -ℤ to_z w64 (of_z w64 b)))) + nat_abs (to_z w64 (of_z w64 o)) → nat_abs r ≤ 1000000000000000000
+beyond_small a b o r h k l u =
+    let v = rw (less_kept a b h k, kept64 o (omega arith)) at u in
+    omega (arith, ints)

@@ -1,6 +1,6 @@
 -- A row of sums, one sum more at a time. Assumes nothing.
-use Rattle.std.proofs.Common.{◌≡◌, ℕ, ◌+◌, ◌<◌, ◌≤◌, List, [], length, get_or, set, replicate, ℤ, pos, ◌+ℤ◌, nat_abs, refl, ap, ◌∙◌, inl, inr, arith}
-use Rattle.std.proofs.lemmas.List.{get_or-set_same, get_or-set_other, get_or-replicate, get_or_past, length-replicate}
+use Rattle.std.proofs.Common.{◌≡◌, ℕ, ◌+◌, ◌-◌, ◌<◌, ◌≤◌, List, [], length, get_or, take, drop, ◌++◌, set, replicate, ℤ, pos, ◌+ℤ◌, nat_abs, refl, ap, ◌∙◌, inl, inr, arith}
+use Rattle.std.proofs.lemmas.List.{get_or-set_same, get_or-set_other, get_or-replicate, get_or_past, get_or-take, get_or_append_left, get_or-append_right, get_or-drop, length-replicate, length-take}
 use Rattle.std.proofs.lemmas.Int.{ints}
 use Rattle.std.proofs.lemmas.Bool.{cases_eq, cases_lt}
 use Rattle.figures.specs.Losses.{at, Added, Holds}
@@ -54,7 +54,8 @@ blank_at n w k s =
           ∙ get_or_past [] s (pos 0) (omega arith)
     ]
 
-holds_zero : (xs : List ℤ) (n : ℕ) → ((s : ℕ) → at xs s ≡ pos 0) → Holds xs n (λ _. pos 0) 0
+-- a row in which nothing is counted yet
+pub holds_zero : (xs : List ℤ) (n : ℕ) → ((s : ℕ) → at xs s ≡ pos 0) → Holds xs n (λ _. pos 0) 0
 holds_zero xs n z =
     record { sums = λ s l. z s; rest = λ s l. z s; small = λ s. rw (z s) (omega arith) }
 
@@ -64,6 +65,43 @@ holds_blank n w k m = holds_zero (get_or (replicate n (replicate w (pos 0))) k [
 
 pub holds_row : (w m : ℕ) → Holds (replicate w (pos 0)) m (λ _. pos 0) 0
 holds_row w m = holds_zero (replicate w (pos 0)) m (zero_at w)
+
+-- the first places of a row
+pub at_front : (xs : List ℤ) (n s : ℕ) → s < n → at (take n xs) s ≡ at xs s
+at_front xs n s l = get_or-take n xs s (pos 0) l
+
+pub at_front_small : (xs : List ℤ) (n b s : ℕ) → nat_abs (at xs s) ≤ b → nat_abs (at (take n xs) s) ≤ b
+at_front_small xs n b s h =
+    elim (cases_lt s n) [
+      | inl l ↦ rw (at_front xs n s l) h
+      | inr l ↦ rw (get_or_past (take n xs) s (pos 0) (omega (arith, length-take n xs))) (omega arith)
+    ]
+
+-- a row after something was added to its first places alone
+pub added_front : (xs ys : List ℤ) (n k : ℕ) (f : ℕ → ℤ) (b : ℕ) → length ys ≡ k → n ≡ k → Added (take n xs) ys k f b → Added xs (ys ++ drop n xs) k f b
+added_front xs ys n k f b l e a =
+    record {
+      more = λ s u. before s u ∙ a.more s u ∙ ap (λ z. z +ℤ f s) (at_front xs n s (omega arith));
+      rest = λ s u. behind s u;
+      small = λ s.
+          elim (cases_lt s k) [
+            | inl u ↦ rw (before s u) (omega (arith, a.small s, ap nat_abs (at_front xs n s (omega arith))))
+            | inr u ↦ rw (behind s u) (omega arith)
+          ];
+    }
+  where
+    before : (s : ℕ) → s < k → at (ys ++ drop n xs) s ≡ at ys s
+    before s u = get_or_append_left ys (drop n xs) (pos 0) s (omega arith)
+
+    behind : (s : ℕ) → k ≤ s → at (ys ++ drop n xs) s ≡ at xs s
+    behind s u = get_or-append_right ys (drop n xs) k s (pos 0) l u ∙ get_or-drop n xs (s - k) (pos 0) ∙ ap (at xs) (omega arith)
+
+pub at_front_zero : (w n s : ℕ) → at (take n (replicate w (pos 0))) s ≡ pos 0
+at_front_zero w n s =
+    elim (cases_lt s n) [
+      | inl l ↦ at_front (replicate w (pos 0)) n s l ∙ zero_at w s
+      | inr l ↦ get_or_past (take n (replicate w (pos 0))) s (pos 0) (omega (arith, length-take n (replicate {A = ℤ} w (pos 0))))
+    ]
 
 -- one more that is counted
 pub holds_more : (xs ys : List ℤ) (n : ℕ) (f g h : ℕ → ℤ) (b c d : ℕ) → Holds xs n f b → Added xs ys n g c → ((s : ℕ) → f s +ℤ g s ≡ h s) → b + c ≤ d → Holds ys n h d
@@ -77,3 +115,6 @@ holds_more xs ys n f g h b c d o a e l =
 pub holds_same : (xs : List ℤ) (n : ℕ) (f g : ℕ → ℤ) (b c : ℕ) → Holds xs n f b → ((s : ℕ) → f s ≡ g s) → b ≤ c → Holds xs n g c
 holds_same xs n f g b c o e l =
     record { sums = λ s u. o.sums s u ∙ e s; rest = o.rest; small = λ s. omega (arith, o.small s) }
+
+pub front_long : (w n : ℕ) → n ≤ w → length (take n (replicate w (pos 0))) ≡ n
+front_long w n h = omega (arith, length-take n (replicate {A = ℤ} w (pos 0)), length-replicate {A = ℤ} w (pos 0))

@@ -1,25 +1,22 @@
--- What positions lose in the scenarios of a subportfolio, by either way of counting, and rows of such sums. Assumes nothing.
+-- What positions lose in the scenarios of a subportfolio, by a way of counting, and rows of such sums. Assumes nothing.
 use Rattle.std.specs.Prelude.{◌≡◌, ℕ, ◌+◌, ◌<◌, ◌≤◌, cond, List, ℤ, pos, ◌+ℤ◌, neg_ℤ, slice_index_or, unsigned_abs}
 use Rattle.scenario.specs.Table.{ScenarioTable}
-use Rattle.figures.specs.declared.counting.Counting.{Counting}
-use Rattle.figures.specs.declared.counting.Counting.TheVariants.{Together, Alone}
 use Rattle.figures.specs.Figures.{Position, lies_in, moves, mark}
 use Rattle.figures.specs.Sums.{floored, total}
 
--- of a mark, and of what is gained in a scenario
-abbrev pub lost : Counting → ℤ → ℤ → ℤ
-lost Together marked moved = neg_ℤ moved
-lost Alone marked moved = floored (neg_ℤ (marked +ℤ moved))
+-- the two ways of counting, of a mark and of what is gained in a scenario: gains and losses together, and losses alone
+abbrev pub lost_together : ℤ → ℤ → ℤ
+lost_together marked moved = neg_ℤ moved
 
-abbrev pub most_lost : Counting → ℕ
-most_lost Together = 1000000000000
-most_lost Alone = 11000000000000
+abbrev pub lost_alone : ℤ → ℤ → ℤ
+lost_alone marked moved = floored (neg_ℤ (marked +ℤ moved))
 
-abbrev pub loses_in : ScenarioTable → (ℕ → ℕ) → Counting → ℕ → ℕ → Position → ℤ
-loses_in m market how k s t = cond (lies_in m k t) (lost how (mark m market t) (moves m s t)) (pos 0)
+-- by either way: of one position, and of positions
+abbrev pub loses_in : ScenarioTable → (ℕ → ℕ) → (ℤ → ℤ → ℤ) → ℕ → ℕ → Position → ℤ
+loses_in m market lost k s t = cond (lies_in m k t) (lost (mark m market t) (moves m s t)) (pos 0)
 
-abbrev pub losses_in : ScenarioTable → (ℕ → ℕ) → Counting → List Position → ℕ → ℕ → ℤ
-losses_in m market how ts k s = total (loses_in m market how k s) ts
+abbrev pub losses_in : ScenarioTable → (ℕ → ℕ) → (ℤ → ℤ → ℤ) → List Position → ℕ → ℕ → ℤ
+losses_in m market lost ts k s = total (loses_in m market lost k s) ts
 
 -- what stands in a row of sums, 0 past its end
 abbrev pub at : List ℤ → ℕ → ℤ

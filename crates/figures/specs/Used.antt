@@ -1,16 +1,16 @@
 -- The utilisation that a value of the code means. Assumes nothing.
-use Rattle.std.specs.Prelude.{ℤ, pos, negsuc, Some, None, Option}
-use Rattle.figures.specs.declared.utilisations.Utilisation.{Utilisation as Kept}
-use Rattle.figures.specs.declared.utilisations.Utilisation.TheVariants.{Percent, NoBacking}
+use Rattle.std.specs.Prelude.{ℕ, ℤ, pos, negsuc, Some, None, Option, Ok, Err, Result}
+use Rattle.figures.specs.declared.utilisations.BelowZero.{BelowZero}
 use Rattle.figures.specs.Figures.{Utilisation, percent, no_backing, utilisation}
 
-abbrev pub utilisation_of : Kept → Utilisation
-utilisation_of (Percent p) = percent p
-utilisation_of NoBacking = no_backing
+-- a percentage, none where nothing stands behind the risk
+abbrev pub utilisation_of : Option ℕ → Utilisation
+utilisation_of (Some p) = percent p
+utilisation_of None = no_backing
 
-abbrev pub used : Option Kept → Option Utilisation
-used (Some u) = Some (utilisation_of u)
-used None = None
+abbrev pub used : Result (Option ℕ) BelowZero → Option Utilisation
+used (Ok u) = Some (utilisation_of u)
+used (Err e) = None
 
 -- of a backing and a risk, where neither is below 0
 abbrev pub utilisation_if : ℤ → ℤ → Option Utilisation

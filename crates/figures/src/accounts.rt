@@ -1,11 +1,11 @@
 //! What positions and a settlement amount ask of a client.
-use crate::bounds::MOST_SUBPORTFOLIOS;
+use cells::rows::Rows;
 
-/// The margin of each subportfolio of a model, and what is needed in all, in centavos. Past the last subportfolio the margins mean nothing.
+/// The margin of each subportfolio of a model, and what is needed in all, in centavos.
 #[derive(Clone, Copy)]
 pub struct Account {
-    /// By subportfolio.
-    pub margins: [i64; MOST_SUBPORTFOLIOS],
+    /// Of each of the model's subportfolios, in their order.
+    pub margins: Rows<i64, 8>,
     /// Not below 0.
     pub need: i64,
 }

@@ -1,27 +1,26 @@
 //! Whether figures can be worked out for positions.
-ghost use Rattle.std.specs.Prelude.{◌≡◌};
+ghost use Rattle.std.specs.Prelude.{◌≡◌, true, false, MatchOption};
 ghost use Rattle.figures.specs.Markets.{all_priced, answerable};
 ghost use Rattle.figures.specs.Positions.{positions_of};
 
-use crate::bounds::MOST_POSITIONS;
 use crate::position::Position;
+use crate::positions::Positions;
 use crate::prices::Prices;
 
 /// Whether every position's contract has a market price.
-fn all_priced(prices: &Prices, positions: &[Position]) -> bool
-    ensures { result ≡ all_priced prices.now (positions_of positions.now) }
+fn all_priced(prices: &Prices, positions: Positions) -> bool
+    ensures { result ≡ all_priced prices.now (positions_of positions.entry.all.now) }
 {
-    for position in positions {
-        if !prices.has(position.contract) {
-            return false;
-        }
-    }
-    true
+    positions
+        .all
+        .iter()
+        .all(|position| prices.has(position.contract))
 }
 
-/// Whether there are few enough positions, each with a market price.
-pub(crate) fn answerable(prices: &Prices, positions: &[Position]) -> bool
-    ensures { result ≡ answerable prices.now (positions_of positions.now) }
+/// The positions, if they are few enough, each with a market price.
+pub(crate) fn answerable<'a>(prices: &Prices, positions: &'a [Position]) -> Option<Positions<'a>>
+    ensures { MatchOption result (answerable prices.now (positions_of positions.now) ≡ false) (λ p. (answerable prices.now (positions_of positions.now) ≡ true) × (p.all.now ≡ positions.now)) }
 {
-    positions.len() <= MOST_POSITIONS && all_priced(prices, positions)
+    let few = Positions::new(positions)?;
+    all_priced(prices, few).then_some(few)
 }

@@ -4,8 +4,8 @@ ghost use Rattle.figures.specs.Figures.{mark, moves, value};
 ghost use Rattle.figures.specs.Markets.{market, has_price, figure_if};
 ghost use Rattle.figures.specs.Positions.{position_of};
 
+use crate::markets::Market;
 use crate::position::Position;
-use crate::prices::Prices;
 use crate::products::{scaled, times};
 use scenario::ScenarioModel;
 
@@ -22,17 +22,6 @@ pub(crate) fn gained(position: &Position, multiplier: u16, ticks: u32) -> i64
     )
 }
 
-/// What a position has gained, at a market price of 0 where there is none.
-fn mark_at<M: ScenarioModel>(model: &M, prices: &Prices, position: &Position) -> i64
-    ensures value { result ≡ mark (M.ScenarioModel.table model.now) (market prices.now) (position_of position.now) }
-    ensures small { unsigned_abs result ≤ 10000000000000 }
-{
-    match model.place(position.contract) {
-        Some((_, multiplier)) => gained(position, multiplier, prices.ticks_of(position.contract)),
-        None => 0,
-    }
-}
-
 /// What a position gains in a scenario of its subportfolio.
 pub(crate) fn moves<M: ScenarioModel>(model: &M, position: &Position, scenario: u8) -> i64
     ensures value { result ≡ moves (M.ScenarioModel.table model.now) scenario (position_of position.now) }
@@ -41,37 +30,37 @@ pub(crate) fn moves<M: ScenarioModel>(model: &M, position: &Position, scenario: 
     times(position.quantity, model.shock(position.contract, scenario))
 }
 
-/// The value of a position in a scenario, at a market price of 0 where there is none.
-fn value_at<M: ScenarioModel>(model: &M, prices: &Prices, position: &Position, scenario: u8) -> i64
-    ensures value { result ≡ value (M.ScenarioModel.table model.now) (market prices.now) scenario (position_of position.now) }
-    ensures small { unsigned_abs result ≤ 11000000000000 }
-{
-    mark_at(model, prices, position) + moves(model, position, scenario)
-}
-
-/// The mark of a position: what it has gained since it was traded. `None` where its contract has no market price.
-pub fn mark<M: ScenarioModel>(model: &M, prices: &Prices, position: &Position) -> Option<i64>
-    ensures value { result ≡ figure_if (has_price prices.now position.now.contract) (mark (M.ScenarioModel.table model.now) (market prices.now) (position_of position.now)) }
-    ensures small { IfSome result (λ x. unsigned_abs x ≤ 10000000000000) }
-{
-    match prices.get(position.contract) {
-        Some(_) => Some(mark_at(model, prices, position)),
-        None => None,
+impl<'a, M: ScenarioModel> Market<'a, M> {
+    /// What a position has gained, at a market price of 0 where there is none.
+    pub(crate) fn mark_at(&self, position: &Position) -> i64
+        ensures value { result ≡ mark (M.ScenarioModel.table self.now.model.now) (market self.now.prices.now) (position_of position.now) }
+        ensures small { unsigned_abs result ≤ 10000000000000 }
+    {
+        match self.model.place(position.contract) {
+            Some((_, multiplier)) => gained(
+                position,
+                multiplier,
+                self.prices.ticks_of(position.contract),
+            ),
+            None => 0,
+        }
     }
-}
 
-/// The value of a position in a scenario of its subportfolio: its mark and what it gains there. `None` where its contract has no market price.
-pub fn value<M: ScenarioModel>(
-    model: &M,
-    prices: &Prices,
-    position: &Position,
-    scenario: u8,
-) -> Option<i64>
-    ensures value { result ≡ figure_if (has_price prices.now position.now.contract) (value (M.ScenarioModel.table model.now) (market prices.now) scenario (position_of position.now)) }
-    ensures small { IfSome result (λ x. unsigned_abs x ≤ 11000000000000) }
-{
-    match prices.get(position.contract) {
-        Some(_) => Some(value_at(model, prices, position, scenario)),
-        None => None,
+    /// The mark of a position: what it has gained since it was traded. `None` where its contract has no market price.
+    pub fn mark(&self, position: &Position) -> Option<i64>
+        ensures value { result ≡ figure_if (has_price self.now.prices.now position.now.contract) (mark (M.ScenarioModel.table self.now.model.now) (market self.now.prices.now) (position_of position.now)) }
+        ensures small { IfSome result (λ x. unsigned_abs x ≤ 10000000000000) }
+    {
+        self.prices
+            .has(position.contract)
+            .then_some(self.mark_at(position))
+    }
+
+    /// The value of a position in a scenario of its subportfolio: its mark and what it gains there. `None` where its contract has no market price.
+    pub fn value(&self, position: &Position, scenario: u8) -> Option<i64>
+        ensures value { result ≡ figure_if (has_price self.now.prices.now position.now.contract) (value (M.ScenarioModel.table self.now.model.now) (market self.now.prices.now) scenario (position_of position.now)) }
+        ensures small { IfSome result (λ x. unsigned_abs x ≤ 11000000000000) }
+    {
+        Some(self.mark(position)? + moves(self.model, position, scenario))
     }
 }

@@ -2,7 +2,7 @@
 ghost use Rattle.std.specs.Prelude.{◌≡◌, ℕ, ◌*◌, ◌<◌, ◌≤◌, length, unsigned_abs};
 ghost use Rattle.figures.specs.Sums.{greatest_below};
 ghost use Rattle.figures.specs.Figures.{moves};
-ghost use Rattle.figures.specs.Losses.{lost, most_lost, at, Added};
+ghost use Rattle.figures.specs.Losses.{at, Added};
 ghost use Rattle.figures.specs.Positions.{position_of};
 
 use crate::bounds::MOST_SCENARIOS;
@@ -11,49 +11,35 @@ use crate::marks::moves;
 use crate::position::Position;
 use scenario::ScenarioModel;
 
-/// A sum for each scenario of a subportfolio.
+/// Room for a sum for each scenario of a subportfolio.
 pub(crate) type Row = [i64; MOST_SCENARIOS];
 
-/// What counts as lost of a position in a scenario.
-fn loses<M: ScenarioModel>(
-    model: &M,
-    position: &Position,
-    mark: i64,
-    how: Counting,
-    scenario: u8,
-) -> i64
-    requires { unsigned_abs mark ≤ 10000000000000 }
-    ensures value { result ≡ lost how mark (moves (M.ScenarioModel.table model.now) scenario (position_of position.now)) }
-    ensures small { unsigned_abs result ≤ most_lost how }
-{
-    how.lost(mark, moves(model, position, scenario))
-}
-
-/// Adds what a position loses in each of the first scenarios to its sum in the row.
-pub(crate) fn add_losses<M: ScenarioModel>(
+/// Adds what a position loses in each scenario to its sum in the row.
+pub(crate) fn add_losses<M: ScenarioModel, C: Counting>(
     row: &mut [i64],
     model: &M,
     position: &Position,
     mark: i64,
-    how: Counting,
-    scenarios: u8,
 )
-    requires { (scenarios ≤ length row.old) × ((unsigned_abs mark ≤ 10000000000000) × (((s : ℕ) → unsigned_abs (at row.old s) ≤ 1000000000000000000))) }
-    ensures { Added row.old row.new scenarios (λ s. lost how mark (moves (M.ScenarioModel.table model.now) s (position_of position.now))) (most_lost how) }
+    requires { (length row.old ≤ 64) × ((unsigned_abs mark ≤ 10000000000000) × (((s : ℕ) → unsigned_abs (at row.old s) ≤ 1000000000000000000))) }
+    ensures { Added row.old row.new (length row.old) (λ s. C.lost mark (moves (M.ScenarioModel.table model.now) s (position_of position.now))) C.most }
 {
-    for scenario in 0..scenarios {
-        row[scenario as usize] += loses(model, position, mark, how, scenario);
+    for (scenario, sum) in row.iter_mut().enumerate() {
+        *sum += C::lost(mark, moves(model, position, scenario as u8));
     }
 }
 
+/// The greatest sum of a row, 0 where there is none.
+pub(crate) fn greatest_of(row: &[i64]) -> i64
+    ensures { result ≡ greatest_below (length row.now) (at row.now) }
+{
+    row.iter().copied().max().unwrap_or(0)
+}
+
 /// The greatest of the first sums of a row.
-pub(crate) fn greatest_of(row: &Row, scenarios: u8) -> i64
-    requires { scenarios ≤ 64 }
+pub(crate) fn greatest_among(row: &Row, scenarios: u8) -> i64
+    requires { (1 ≤ scenarios) × (scenarios ≤ 64) }
     ensures { result ≡ greatest_below scenarios (at row.now) }
 {
-    let mut most = row[0];
-    for scenario in 0..scenarios {
-        most = most.max(row[scenario as usize]);
-    }
-    most
+    greatest_of(&row[..scenarios as usize])
 }

@@ -1,98 +1,95 @@
 //! What positions have gained, and what they lose in each scenario of each subportfolio: a row of sums for each subportfolio.
-ghost use Rattle.std.specs.Prelude.{◌≡◌, ℕ, ◌*◌, ◌≤◌, true, [], map, length, take, slice_index_or, unsigned_abs};
-ghost use Rattle.figures.specs.Figures.{mark};
-ghost use Rattle.figures.specs.Sums.{total, total_below, greatest_below, those_below};
-ghost use Rattle.figures.specs.Losses.{most_lost, loses_in, losses_in, at, Added, Holds};
+ghost use Rattle.std.specs.Prelude.{◌≡◌, ℕ, ◌*◌, ◌≤◌, true, [], map, length, slice_index_or, unsigned_abs};
+ghost use Rattle.cells.specs.Listed.{listed};
+ghost use Rattle.figures.specs.Figures.{mark, moves};
+ghost use Rattle.figures.specs.Sums.{total, greatest_below, those_below};
+ghost use Rattle.figures.specs.Losses.{loses_in, losses_in, at, Added, Holds};
 ghost use Rattle.figures.specs.Markets.{market};
 ghost use Rattle.figures.specs.Positions.{position_of, positions_of};
 
 use crate::bounds::{MOST_SCENARIOS, MOST_SUBPORTFOLIOS};
 use crate::counting::Counting;
+use crate::markets::Market;
 use crate::marks::gained;
 use crate::position::Position;
-use crate::prices::Prices;
-use crate::rows::{Row, add_losses, greatest_of};
+use crate::positions::Positions;
+use crate::rows::{Row, add_losses, greatest_among};
+use cells::rows::Rows;
 use scenario::ScenarioModel;
-
-/// A row of sums for each subportfolio.
-pub(crate) type Rows = [Row; MOST_SUBPORTFOLIOS];
 
 /// What positions have gained together, and what they lose in each scenario of each subportfolio.
 #[derive(Drop)]
 pub(crate) struct Tally {
     pub(crate) gained: i64,
-    pub(crate) rows: Rows,
+    pub(crate) rows: [Row; MOST_SUBPORTFOLIOS],
 }
 
-/// Counts one more position, whose place in the model is asked once, and gives its mark.
-fn count<M: ScenarioModel>(
-    rows: &mut Rows,
-    model: &M,
-    prices: &Prices,
-    position: &Position,
-    how: Counting,
-) -> i64
-    requires { (k s : ℕ) → unsigned_abs (at (slice_index_or rows.old k []) s) ≤ 1000000000000000000 }
-    ensures value { result ≡ mark (M.ScenarioModel.table model.now) (market prices.now) (position_of position.now) }
-    ensures small { unsigned_abs result ≤ 10000000000000 }
-    ensures losses { (k : ℕ) → Added (slice_index_or rows.old k []) (slice_index_or rows.new k []) ((M.ScenarioModel.table model.now).scenarios k) (λ s. loses_in (M.ScenarioModel.table model.now) (market prices.now) how k s (position_of position.now)) (most_lost how) }
-{
-    match model.place(position.contract) {
-        Some((k, multiplier)) => {
-            let mark = gained(position, multiplier, prices.ticks_of(position.contract));
-            add_losses(
-                &mut rows[k as usize],
-                model,
-                position,
-                mark,
-                how,
-                model.scenarios(k),
-            );
-            mark
+impl<'a, M: ScenarioModel> Market<'a, M> {
+    /// Adds what a position with this mark loses in each scenario of subportfolio `k` to its sum in that subportfolio's row.
+    fn add_losses<C: Counting>(&self, row: &mut [i64], k: u8, position: &Position, mark: i64)
+        requires { (length row.old ≡ 64) × ((unsigned_abs mark ≤ 10000000000000) × (((s : ℕ) → unsigned_abs (at row.old s) ≤ 1000000000000000000))) }
+        ensures { Added row.old row.new ((M.ScenarioModel.table self.now.model.now).scenarios k) (λ s. C.lost mark (moves (M.ScenarioModel.table self.now.model.now) s (position_of position.now))) C.most }
+    {
+        let scenarios = self.model.scenarios(k) as usize;
+        add_losses::<M, C>(&mut row[..scenarios], self.model, position, mark);
+    }
+
+    /// Counts one more position, whose place in the model is asked once, and gives its mark.
+    fn count<C: Counting>(&self, rows: &mut [Row; MOST_SUBPORTFOLIOS], position: &Position) -> i64
+        requires { (k s : ℕ) → unsigned_abs (at (slice_index_or rows.old k []) s) ≤ 1000000000000000000 }
+        ensures value { result ≡ mark (M.ScenarioModel.table self.now.model.now) (market self.now.prices.now) (position_of position.now) }
+        ensures small { unsigned_abs result ≤ 10000000000000 }
+        ensures losses { (k : ℕ) → Added (slice_index_or rows.old k []) (slice_index_or rows.new k []) ((M.ScenarioModel.table self.now.model.now).scenarios k) (λ s. loses_in (M.ScenarioModel.table self.now.model.now) (market self.now.prices.now) C.lost k s (position_of position.now)) C.most }
+    {
+        let Some((k, multiplier)) = self.model.place(position.contract) else {
+            return 0;
+        };
+        let mark = gained(
+            position,
+            multiplier,
+            self.prices.ticks_of(position.contract),
+        );
+        self.add_losses::<C>(&mut rows[k as usize], k, position, mark);
+        mark
+    }
+
+    /// Counts positions.
+    pub(crate) fn tally_of<C: Counting>(&self, positions: Positions) -> Tally
+        ensures gained { result.gained ≡ total (mark (M.ScenarioModel.table self.now.model.now) (market self.now.prices.now)) (positions_of positions.entry.all.now) }
+        ensures small { unsigned_abs result.gained ≤ 1024 * 10000000000000 }
+        ensures losses { (k : ℕ) → Holds (slice_index_or result.rows k []) ((M.ScenarioModel.table self.now.model.now).scenarios k) (losses_in (M.ScenarioModel.table self.now.model.now) (market self.now.prices.now) C.lost (positions_of positions.entry.all.now) k) (C.most * 1024) }
+    {
+        let mut rows = [[0; MOST_SCENARIOS]; MOST_SUBPORTFOLIOS];
+        let mut gained = 0;
+        for position in positions.all {
+            gained += self.count::<C>(&mut rows, position);
         }
-        None => 0,
+        Tally { gained, rows }
     }
 }
 
-/// Counts positions.
-pub(crate) fn tally_of<M: ScenarioModel>(
+/// The greatest sum of each subportfolio's row.
+pub(crate) fn greatest_by_row<M: ScenarioModel>(
     model: &M,
-    prices: &Prices,
-    positions: &[Position],
-    how: Counting,
-) -> Tally
-    requires { length positions.now ≤ 1024 }
-    ensures gained { result.gained ≡ total (mark (M.ScenarioModel.table model.now) (market prices.now)) (positions_of positions.now) }
-    ensures small { unsigned_abs result.gained ≤ 1024 * 10000000000000 }
-    ensures losses { (k : ℕ) → Holds (slice_index_or result.rows k []) ((M.ScenarioModel.table model.now).scenarios k) (losses_in (M.ScenarioModel.table model.now) (market prices.now) how (positions_of positions.now) k) (most_lost how * 1024) }
+    rows: &[Row; MOST_SUBPORTFOLIOS],
+) -> Rows<i64, 8>
+    ensures { listed result ≡ map (λ k. greatest_below ((M.ScenarioModel.table model.now).scenarios k) (at (slice_index_or rows.now k []))) (those_below (M.ScenarioModel.table model.now).subportfolios (λ _. true)) }
 {
-    let mut rows = [[0; MOST_SCENARIOS]; MOST_SUBPORTFOLIOS];
-    let mut gained = 0;
-    for position in positions {
-        gained += count(&mut rows, model, prices, position, how);
+    let mut greatest = Rows::of([0; MOST_SUBPORTFOLIOS]);
+    for k in 0..model.subportfolios() {
+        greatest.push(greatest_among(&rows[k as usize], model.scenarios(k)));
     }
-    Tally { gained, rows }
+    greatest
 }
 
-/// The greatest sum of each subportfolio's row, all together.
-pub(crate) fn worst_of<M: ScenarioModel>(model: &M, rows: &Rows) -> i64
-    requires { (k s : ℕ) → unsigned_abs (at (slice_index_or rows.now k []) s) ≤ 11264000000000000 }
-    ensures { result ≡ total_below (M.ScenarioModel.table model.now).subportfolios (λ k. greatest_below ((M.ScenarioModel.table model.now).scenarios k) (at (slice_index_or rows.now k []))) }
+/// The sum of a figure of each subportfolio.
+pub(crate) fn sum_of(figures: &Rows<i64, 8>) -> i64
+    requires { (k : ℕ) → unsigned_abs (at (listed figures.now) k) ≤ 11264000000000000 }
+    ensures { result ≡ total (λ x. x) (listed figures.now) }
 {
     let mut sum = 0;
-    for k in 0..model.subportfolios() {
-        sum += greatest_of(&rows[k as usize], model.scenarios(k));
+    for figure in figures.as_slice() {
+        sum += *figure;
     }
     sum
-}
-
-/// The greatest sum of each subportfolio's row, one by one.
-pub(crate) fn greatest_by_row<M: ScenarioModel>(model: &M, rows: &Rows) -> [i64; MOST_SUBPORTFOLIOS]
-    ensures { take (M.ScenarioModel.table model.now).subportfolios result ≡ map (λ k. greatest_below ((M.ScenarioModel.table model.now).scenarios k) (at (slice_index_or rows.now k []))) (those_below (M.ScenarioModel.table model.now).subportfolios (λ _. true)) }
-{
-    let mut most = [0; MOST_SUBPORTFOLIOS];
-    for k in 0..model.subportfolios() {
-        most[k as usize] = greatest_of(&rows[k as usize], model.scenarios(k));
-    }
-    most
 }

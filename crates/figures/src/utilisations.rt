@@ -1,39 +1,42 @@
 //! How much of a backing a risk takes up.
-ghost use Rattle.std.specs.Prelude.{◌≡◌};
+ghost use Rattle.std.specs.Prelude.{◌≡◌, Some, codes};
 ghost use Rattle.figures.specs.Figures.{utilisation};
 ghost use Rattle.figures.specs.Used.{utilisation_of, used, utilisation_if};
 
-/// How much of its backing a risk takes up.
-#[derive(Clone, Copy)]
-pub enum Utilisation {
-    /// 100 × risk / backing, in whole percent, rounded up.
-    Percent(u128),
-    /// Nothing stands behind the risk.
-    NoBacking,
-}
+use std::fmt;
 
-/// Of a backing and a risk that are not below 0.
-fn used(backing: u64, risk: u64) -> Utilisation
-    ensures { utilisation_of result ≡ utilisation backing risk }
-{
-    if backing > 0 {
-        Utilisation::Percent((100 * risk as u128 + (backing as u128 - 1)) / backing as u128)
-    } else if risk > 0 {
-        Utilisation::NoBacking
-    } else {
-        Utilisation::Percent(0)
+/// A backing or a risk is below 0.
+#[derive(Clone, Copy, PartialEq, Eq, Debug)]
+pub struct BelowZero;
+
+impl fmt::Display for BelowZero {
+    ghost output = { λ _. Some (codes "the backing or the risk is below 0") };
+
+    fn fmt<W: fmt::Write>(&self, f: &mut fmt::Formatter<W>) -> fmt::Result {
+        f.write_str("the backing or the risk is below 0")
     }
 }
 
-impl Utilisation {
-    /// The utilisation of a backing by a risk. `None` where one of them is below 0.
-    pub fn of(backing: i64, risk: i64) -> Option<Utilisation>
-        ensures { used result ≡ utilisation_if backing risk }
-    {
-        if backing < 0 || risk < 0 {
-            None
-        } else {
-            Some(used(backing as u64, risk as u64))
-        }
+/// How much of a backing a risk takes up: 100 × risk / backing, in whole percent, rounded up, and `None` where nothing stands behind the risk.
+pub fn used(backing: u64, risk: u64) -> Option<u128>
+    ensures { utilisation_of result ≡ utilisation backing risk }
+{
+    if backing > 0 {
+        Some((100 * risk as u128 + (backing as u128 - 1)) / backing as u128)
+    } else if risk > 0 {
+        None
+    } else {
+        Some(0)
+    }
+}
+
+/// The same of amounts that can be below 0, and are refused there.
+pub fn utilisation(backing: i64, risk: i64) -> Result<Option<u128>, BelowZero>
+    ensures { used result ≡ utilisation_if backing risk }
+{
+    if backing < 0 || risk < 0 {
+        Err(BelowZero)
+    } else {
+        Ok(used(backing as u64, risk as u64))
     }
 }

@@ -18,18 +18,18 @@ module _ (m : ScenarioTable) (l : Ledger) (tr : ℕ) where
   abbrev pub stated : ℕ → List ClientFigures
   stated n = map (client_figures m l) (those_below n is_of)
 
-  module _ (k n : ℕ) (found : List Kept) (inv : map (figures_in k) found ≡ stated n) where
+  module _ (n : ℕ) (found : List Kept) (inv : map figures_in found ≡ stated n) where
     pub stated_room : n < 128 → ltb (length found) 128 ≡ true
     stated_room h =
-        let same : length (map (figures_in k) found) ≡ length (stated n) = ap length inv in
-        lt-ltb (length found) 128 (omega (arith, length-map found (figures_in k), length-map (those_below n is_of) (client_figures m l), length_those n is_of))
+        let same : length (map figures_in found) ≡ length (stated n) = ap length inv in
+        lt-ltb (length found) 128 (omega (arith, length-map found figures_in, length-map (those_below n is_of) (client_figures m l), length_those n is_of))
 
-    pub stated_yes : (more : List Kept) (x : Kept) → is_of n ≡ true → figures_in k x ≡ client_figures m l n → more ≡ found ++ x ∷ [] → map (figures_in k) more ≡ stated (n + 1)
+    pub stated_yes : (more : List Kept) (x : Kept) → is_of n ≡ true → figures_in x ≡ client_figures m l n → more ≡ found ++ x ∷ [] → map figures_in more ≡ stated (n + 1)
     stated_yes more x t e u =
-        ap (map (figures_in k)) u
-        ∙ map_push (figures_in k) found x
-        ∙ ap (λ (v : List ClientFigures). v ++ figures_in k x ∷ []) inv
-        ∙ sym (those_yes (client_figures m l) n is_of (figures_in k x) t e)
+        ap (map figures_in) u
+        ∙ map_push figures_in found x
+        ∙ ap (λ (v : List ClientFigures). v ++ figures_in x ∷ []) inv
+        ∙ sym (those_yes (client_figures m l) n is_of (figures_in x) t e)
 
-    pub stated_no : is_of n ≡ false → map (figures_in k) found ≡ stated (n + 1)
+    pub stated_no : is_of n ≡ false → map figures_in found ≡ stated (n + 1)
     stated_no t = inv ∙ sym (those_no (client_figures m l) n is_of t)

@@ -33,9 +33,9 @@ lacks_summable ds xs few e =
     (ap all_fair e ∙ all_lacks_fair xs)
 
 -- by what the figures mean
-pub lacks_meant : (k : ℕ) (xs : List Kept) → lacks xs ≡ map (λ (f : ClientFigures). f.lacking) (map (figures_in k) xs)
-lacks_meant k [] = refl
-lacks_meant k (x ∷ xs) = ap (λ (l : List ℤ). x.deficit ∷ l) (lacks_meant k xs)
+pub lacks_meant : (xs : List Kept) → lacks xs ≡ map (λ (f : ClientFigures). f.lacking) (map figures_in xs)
+lacks_meant [] = refl
+lacks_meant (x ∷ xs) = ap (λ (l : List ℤ). x.deficit ∷ l) (lacks_meant xs)
 
 pub lacking_of : (m : ScenarioTable) (l : Ledger) (cs : List ℕ) → map (λ (f : ClientFigures). f.lacking) (map (client_figures m l) cs) ≡ map (deficit_of m l) cs
 lacking_of m l [] = refl

@@ -1,27 +1,29 @@
--- A row that is filled from the front, one number more at a time. Assumes nothing.
-use Rattle.std.proofs.Common.{◌≡◌, ℕ, ◌+◌, ◌<◌, ◌≤◌, List, length, get_or, set, replicate, ℤ, pos, refl, ◌∙◌, inl, inr, arith}
-use Rattle.std.proofs.lemmas.List.{get_or-set_same, get_or-set_other, length-set}
-use Rattle.std.proofs.lemmas.Bool.{cases_eq}
-use Rattle.figures.proofs.Summing.{holds_row}
+-- The needs of clients, by number. Assumes nothing.
+use Rattle.std.proofs.Common.{◌≡◌, ℕ, ◌+◌, ◌<◌, ◌≤◌, cond, ltb, List, length, get_or, set, unwrap_or, ℤ, pos, Some, None, Option, ap, ◌∙◌, inl, inr, arith}
+use Rattle.std.proofs.lemmas.Bool.{cond-true, cond-false, lt-ltb, le-ltb, cases_eq}
+use Rattle.std.proofs.lemmas.List.{get_or-set_same, get_or-set_other}
+use Rattle.scenario.specs.Table.{ScenarioTable}
+use Rattle.rules.specs.Ledger.{Ledger}
+use Rattle.rules.specs.Limits.{need_of}
 
--- 128 places, of which the first n hold f 0 to f (n - 1), and the others 0
-pub record Filled (f : ℕ → ℤ) (n : ℕ) (xs : List ℤ) : Type 0 where
-  pub long : length xs ≡ 128
-  pub known : (j : ℕ) → j < n → get_or xs j (pos 0) ≡ f j
-  pub past : (j : ℕ) → n ≤ j → get_or xs j (pos 0) ≡ pos 0
+module _ (m : ScenarioTable) (l : Ledger) where
+  abbrev pub asked_need : ℕ → Option ℤ
+  asked_need c = cond (ltb c (length l.clients)) (Some (need_of m l c)) None
 
-module _ (f : ℕ → ℤ) where
-  pub filled_none : Filled f 0 (replicate 128 (pos 0))
-  filled_none = record { long = refl; known = λ j h. absurd (omega arith); past = λ j h. (holds_row 128 0).rest j h }
+  -- 0 where there is no such client
+  abbrev pub need_at : ℕ → ℤ
+  need_at c = unwrap_or (asked_need c) (pos 0)
 
-  pub filled_more : (n : ℕ) (xs : List ℤ) (z : ℤ) → n < 128 → z ≡ f n → Filled f n xs → Filled f (n + 1) (set xs n z)
-  filled_more n xs z h e a =
-      record {
-        long = length-set xs n z ∙ a.long;
-        known = λ j u.
-            elim (cases_eq j n) [
-              | inl q ↦ rw q (get_or-set_same xs n z (pos 0) (omega (arith, a.long)) ∙ e)
-              | inr q ↦ get_or-set_other xs n j z (pos 0) q ∙ a.known j (omega (arith, q))
-            ];
-        past = λ j u. get_or-set_other xs n j z (pos 0) (λ q. omega arith) ∙ a.past j (omega arith);
-      }
+  pub need_known : (c : ℕ) → c < length l.clients → need_at c ≡ need_of m l c
+  need_known c h = ap (λ (o : Option ℤ). unwrap_or o (pos 0)) (cond-true (ltb c (length l.clients)) (Some (need_of m l c)) None (lt-ltb c (length l.clients) h))
+
+  pub need_past : (c : ℕ) → length l.clients ≤ c → need_at c ≡ pos 0
+  need_past c h = ap (λ (o : Option ℤ). unwrap_or o (pos 0)) (cond-false (ltb c (length l.clients)) (Some (need_of m l c)) None (le-ltb c (length l.clients) h))
+
+-- a row that is filled from the front, one place more
+pub filled_more : (f : ℕ → ℤ) (xs : List ℤ) (i : ℕ) (z : ℤ) → i < length xs → z ≡ f i → ((k : ℕ) → k < i → get_or xs k (pos 0) ≡ f k) → (k : ℕ) → k < i + 1 → get_or (set xs i z) k (pos 0) ≡ f k
+filled_more f xs i z h e old k u =
+    elim (cases_eq k i) [
+      | inl q ↦ rw q (get_or-set_same xs i z (pos 0) h ∙ e)
+      | inr q ↦ get_or-set_other xs i k z (pos 0) q ∙ old k (omega (arith, q))
+    ]

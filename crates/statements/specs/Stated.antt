@@ -9,7 +9,7 @@ use Rattle.statements.specs.Figured.{figures_in}
 
 abbrev pub statement_in : Kept → Statement
 statement_in s = record {
-  clients = map (figures_in s.subportfolios) (listed s.clients);
+  clients = map figures_in (listed s.clients);
   specified = s.specified;
   unspecified = s.unspecified;
   at_risk = s.risk;

@@ -1,7 +1,7 @@
 //! The figures of a client.
 ghost use Rattle.std.specs.Prelude.{pos, ◌≤ℤ◌};
 
-use figures::bounds::MOST_SUBPORTFOLIOS;
+use cells::rows::Rows;
 
 pub(crate) mod figuring;
 
@@ -10,8 +10,8 @@ pub(crate) mod figuring;
 pub struct ClientFigures {
     /// The client's number.
     pub number: u8,
-    /// By subportfolio. Past the model's subportfolios the margins mean nothing.
-    pub margins: [i64; MOST_SUBPORTFOLIOS],
+    /// Of each of the model's subportfolios, in their order.
+    pub margins: Rows<i64, 8>,
     /// What is needed behind its positions, with what it owes of the day's settlement.
     pub need: i64,
     /// What it has put up.

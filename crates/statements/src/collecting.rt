@@ -1,11 +1,12 @@
 //! How positions are collected from the trades.
-ghost use Rattle.std.specs.Prelude.{◌≡◌, ◌≤◌, true, map, length, if◌then◌else◌, Some, None};
+ghost use Rattle.std.specs.Prelude.{◌≡◌, ◌≤◌, Bool, true, map, length, if◌then◌else◌, Some, None};
 ghost use Rattle.cells.specs.Listed.{listed};
 ghost use Rattle.figures.specs.Positions.{meant, positions_of};
 ghost use Rattle.figures.specs.Sums.{only};
+ghost use Rattle.rules.specs.Ledger.{Trade};
+ghost use Rattle.rules.specs.Limits.{held_by, open_for};
 ghost use Rattle.book.specs.Filled.{is_filled, each_filled};
 ghost use Rattle.book.specs.Means.{trade_in};
-ghost use Rattle.statements.specs.Asking.{asks, asks_held, asks_open};
 
 use book::trades::standing::TradeCell;
 use cells::rows::Rows;
@@ -13,53 +14,51 @@ use figures::bounds::MOST_POSITIONS;
 use figures::position::Position;
 
 /// Which trades are asked for.
-#[derive(Clone, Copy)]
-pub(crate) enum Asked {
-    /// Those of a client, given to it or carried for it.
-    HeldBy(u8),
-    /// Those of a trader that have no client yet.
-    OpenFor(u8),
-}
-
-impl Asked {
-    /// Whether the trades of this client are asked for.
-    fn is_client(self, number: u8) -> bool
-        ensures { result ≡ asks_held self number }
-    {
-        match self {
-            Asked::HeldBy(client) => client == number,
-            Asked::OpenFor(_) => false,
-        }
-    }
-
-    /// Whether the open trades of this trader are asked for.
-    fn is_trader(self, number: u8) -> bool
-        ensures { result ≡ asks_open self number }
-    {
-        match self {
-            Asked::HeldBy(_) => false,
-            Asked::OpenFor(trader) => trader == number,
-        }
-    }
+pub(crate) trait Asked {
+    ghost asks: { Self → Trade → Bool };
 
     /// The position of a trade that is asked for, `None` of another.
-    fn position_in(self, cell: &TradeCell) -> Option<Position>
+    fn position_in(&self, cell: &TradeCell) -> Option<Position>
         requires { is_filled cell.now ≡ true }
-        ensures { meant result ≡ (if asks self (trade_in cell.now) then Some (trade_in cell.now).position else None) }
-    {
+        ensures { meant result ≡ (if asks self.now (trade_in cell.now) then Some (trade_in cell.now).position else None) };
+}
+
+/// Those of a client, given to it or carried for it.
+#[derive(Drop)]
+pub(crate) struct HeldBy(pub(crate) u8);
+
+impl Asked for HeldBy {
+    ghost asks = { λ asked. held_by asked.0 };
+
+    fn position_in(&self, cell: &TradeCell) -> Option<Position> {
         match *cell {
-            TradeCell::Empty => None,
-            TradeCell::Unspecified(trade) => self.is_trader(trade.trader).then_some(trade.position),
-            TradeCell::Specified(trade, client) => self.is_client(client).then_some(trade.position),
-            TradeCell::Carried(trade, client) => self.is_client(client).then_some(trade.position),
+            TradeCell::Specified(trade, client) | TradeCell::Carried(trade, client) => {
+                (client == self.0).then_some(trade.position)
+            }
+            _ => None,
+        }
+    }
+}
+
+/// Those of a trader that have no client yet.
+#[derive(Drop)]
+pub(crate) struct OpenFor(pub(crate) u8);
+
+impl Asked for OpenFor {
+    ghost asks = { λ asked. open_for asked.0 };
+
+    fn position_in(&self, cell: &TradeCell) -> Option<Position> {
+        match *cell {
+            TradeCell::Unspecified(trade) => (trade.trader == self.0).then_some(trade.position),
+            _ => None,
         }
     }
 }
 
 /// The positions of the trades that are asked for, in their order.
-pub(crate) fn collect(cells: &[TradeCell], asked: Asked) -> Rows<Position, 1024>
+pub(crate) fn collect<A: Asked>(cells: &[TradeCell], asked: &A) -> Rows<Position, 1024>
     requires { (length cells.now ≤ 1024) × (each_filled cells.now ≡ true) }
-    ensures { positions_of (listed result) ≡ map (λ t. t.position) (only (asks asked) (map trade_in cells.now)) }
+    ensures { positions_of (listed result) ≡ map (λ t. t.position) (only (A.asks asked.now) (map trade_in cells.now)) }
 {
     let unfilled = Position {
         contract: 0,

@@ -4,6 +4,7 @@
 
 pub mod clients;
 mod collecting;
+pub mod days;
 pub mod needs;
 pub mod statement;
 pub mod stating;

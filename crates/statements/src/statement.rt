@@ -5,13 +5,10 @@ ghost use Rattle.statements.specs.Stated.{blank, statement_in};
 use crate::clients::ClientFigures;
 use crate::clients::figuring::no_figures;
 use cells::rows::Rows;
-use figures::utilisations::Utilisation;
 
 /// What a trader's clients need and lack, the risk, what stands behind it, and what that leaves, in centavos.
 #[derive(Clone, Copy)]
 pub struct Statement {
-    /// How many subportfolios the model has: so many margins of each client stand.
-    pub subportfolios: u8,
     /// Each client of the trader, by rising number.
     pub clients: Rows<ClientFigures, 128>,
     /// What the clients that lack most lack together, as many as a bad day may name.
@@ -24,8 +21,8 @@ pub struct Statement {
     pub backing: i64,
     /// What the backing leaves over the risk: below 0 where it does not suffice.
     pub limit: i64,
-    /// How much of the backing the risk takes up.
-    pub used: Utilisation,
+    /// How much of the backing the risk takes up, in whole percent, rounded up. `None` where nothing stands behind the risk.
+    pub used: Option<u128>,
 }
 
 impl Statement {
@@ -34,14 +31,13 @@ impl Statement {
         ensures { statement_in result ≡ blank }
     {
         Statement {
-            subportfolios: 0,
             clients: no_figures(),
             specified: 0,
             unspecified: 0,
             risk: 0,
             backing: 0,
             limit: 0,
-            used: Utilisation::Percent(0),
+            used: Some(0),
         }
     }
 }

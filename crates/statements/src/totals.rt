@@ -2,33 +2,29 @@
 ghost use Rattle.std.specs.Prelude.{◌≡◌, ◌≤◌, map, length, pos, ◌+ℤ◌, ◌-ℤ◌, ◌≤ℤ◌, unsigned_abs};
 ghost use Rattle.cells.specs.Listed.{listed};
 ghost use Rattle.deficits.specs.Summed.{amounts};
-ghost use Rattle.figures.specs.Figures.{utilisation};
 ghost use Rattle.figures.specs.Sums.{total_greatest};
-ghost use Rattle.figures.specs.Used.{utilisation_of};
 ghost use Rattle.rules.specs.Limits.{unspecified_risk};
 ghost use Rattle.book.specs.Ledgers.{ledger_in};
 
 use crate::clients::ClientFigures;
-use crate::collecting::{Asked, collect};
-use book::books::Book;
+use crate::collecting::{OpenFor, collect};
+use crate::days::Day;
 use book::traders::Trader;
 use cells::rows::Rows;
 use deficits::{Deficit, MOST_DEFICITS, sum_of_greatest};
-use figures::opens::open_risk_of_rows;
-use figures::utilisations::Utilisation;
+use figures::positions::Positions;
 use scenario::ScenarioModel;
 
 /// What each of some clients lacks.
-fn deficits_of(clients: &[ClientFigures]) -> Rows<Deficit, 128>
-    requires { length clients.now ≤ 128 }
-    ensures { amounts (listed result) ≡ map (λ c. c.deficit) clients.now }
+fn deficits_of(clients: &Rows<ClientFigures, 128>) -> Rows<Deficit, 128>
+    ensures { amounts (listed result) ≡ map (λ c. c.deficit) (listed clients.now) }
 {
     let nothing = Deficit {
         amount: 0,
         client: 0,
     };
     let mut found = Rows::of([nothing; MOST_DEFICITS]);
-    for client in clients {
+    for client in clients.as_slice() {
         let _ = found.push(Deficit {
             amount: client.deficit,
             client: client.number,
@@ -42,20 +38,22 @@ pub(crate) fn specified_risk(clients: &Rows<ClientFigures, 128>, defaults: u8) -
     ensures value { result ≡ total_greatest defaults (map (λ c. c.deficit) (listed clients.now)) }
     ensures small { unsigned_abs result ≤ 6400000000000000000 }
 {
-    let deficits = deficits_of(clients.as_slice());
+    let deficits = deficits_of(clients);
     match sum_of_greatest(deficits.as_slice(), defaults as usize) {
         Some(sum) => sum,
         None => unreachable(),
     }
 }
 
-/// The risk of the trades of a trader that have no client yet.
-pub(crate) fn unspecified_risk<M: ScenarioModel>(model: &M, book: &Book, trader: u8) -> i64
-    ensures value { result ≡ unspecified_risk (M.ScenarioModel.table model.now) (ledger_in book.now) trader }
-    ensures small { unsigned_abs result ≤ 90112000000000000 }
-{
-    let found = collect(book.cells(), Asked::OpenFor(trader));
-    open_risk_of_rows(model, book.prices(), &found)
+impl<'a, M: ScenarioModel> Day<'a, M> {
+    /// The risk of the trades of a trader that have no client yet.
+    pub(crate) fn unspecified_risk(&self, trader: u8) -> i64
+        ensures value { result ≡ unspecified_risk (M.ScenarioModel.table self.now.model.now) (ledger_in self.now.book.now) trader }
+        ensures small { unsigned_abs result ≤ 90112000000000000 }
+    {
+        let found = collect(self.book.cells(), &OpenFor(trader));
+        self.market().open_risk_of(Positions::of(&found))
+    }
 }
 
 /// Both risks together.
@@ -82,15 +80,4 @@ pub(crate) fn left_of(backing: i64, risk: i64) -> i64
     ensures { result ≡ backing -ℤ risk }
 {
     backing - risk
-}
-
-/// How much of a backing a risk takes up.
-pub(crate) fn used_of(backing: i64, risk: i64) -> Utilisation
-    requires { (pos 0 ≤ℤ backing) × (pos 0 ≤ℤ risk) }
-    ensures { utilisation_of result ≡ utilisation (unsigned_abs backing) (unsigned_abs risk) }
-{
-    match Utilisation::of(backing, risk) {
-        Some(used) => used,
-        None => unreachable(),
-    }
 }

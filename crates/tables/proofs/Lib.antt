@@ -1,3 +1,2 @@
-pub mod Losing
 pub mod Marking
 pub mod Reading

@@ -1,5 +1,4 @@
 pub mod Greatest
-pub mod Losses
 pub mod Numbers
 pub mod Questions
 pub mod Steps

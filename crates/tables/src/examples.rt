@@ -72,13 +72,9 @@ impl Example {
         ensures holds { MatchResult result (λ _. Holds self.new.sheet file.now) (λ _. self.new ≡ self.old) }
         ensures blank { OnOk result ((self.new.prices.ticks ≡ replicate 256 None) × (self.new.positions.items ≡ [])) }
     {
-        match self.sheet.fill(file) {
-            Ok(()) => {
-                self.clear();
-                Ok(())
-            }
-            Err(refusal) => Err(refusal),
-        }
+        self.sheet.fill(file)?;
+        self.clear();
+        Ok(())
     }
 
     // Takes over a step.
@@ -93,13 +89,10 @@ impl Example {
                 self.clear();
                 Ok(())
             }
-            Step::Price(contract, ticks) => {
-                if self.prices.set(contract, ticks) {
-                    Ok(())
-                } else {
-                    Err(Untaken::Refused)
-                }
-            }
+            Step::Price(contract, ticks) => self
+                .prices
+                .set(contract, ticks)
+                .or(Err(Untaken::Refused)),
             Step::Trade(position) => Ok(self.positions.push(position)?),
         }
     }

@@ -5,7 +5,6 @@
 
 mod examples;
 mod greatest;
-mod losses;
 mod numbers;
 mod questions;
 mod steps;

@@ -10,21 +10,19 @@ ghost use Rattle.tables.specs.Workings.{number_if, word_figure, figure_in, utili
 
 use crate::examples::Example;
 use crate::greatest::greatest_of;
-use crate::losses::loss_in;
 use crate::numbers::signed;
 use crate::questions::{Question, question_in};
 use console::only_word;
-use figures::marks::mark;
-use figures::needs::{deficit, need};
-use figures::opens::open_risk;
+use figures::markets::Market;
+use figures::needs::deficit;
 use figures::position::Position;
-use figures::prices::Prices;
-use figures::utilisations::Utilisation;
+use figures::utilisations::utilisation;
 use scenario::ScenarioModel;
 use sheets::kinds::Sheet;
 use std::fmt;
 
 /// A figure of a table.
+// Kept as an enum of the shape of `Option`: it prints itself, and the word for no number is its own.
 #[derive(Clone, Copy, PartialEq)]
 pub enum Figure {
     /// An amount in centavos, or a whole percentage.
@@ -46,31 +44,24 @@ impl fmt::Display for Figure {
 fn number(worked: Option<i64>) -> Option<Figure>
     ensures { result ≡ number_if worked }
 {
-    match worked {
-        Some(number) => Some(Figure::Number(number)),
-        None => None,
-    }
+    worked.map(|number| Figure::Number(number))
 }
 
 // How much of its backing a risk takes up.
-fn utilisation(risk: i64, backing: i64) -> Option<Figure>
+fn percentage(risk: i64, backing: i64) -> Option<Figure>
     ensures { result ≡ utilisation_figure (utilisation_if backing risk) }
 {
-    match Utilisation::of(backing, risk) {
-        Some(Utilisation::Percent(percent)) => number(i64::try_from(percent).ok()),
-        Some(Utilisation::NoBacking) => Some(Figure::NoBacking),
-        None => None,
+    match utilisation(backing, risk).ok()? {
+        Some(percent) => number(i64::try_from(percent).ok()),
+        None => Some(Figure::NoBacking),
     }
 }
 
 // The mark of the last position. `None` where there is none, or its contract has no market price.
-fn last_mark(sheet: &Sheet, prices: &Prices, positions: &[Position]) -> Option<i64>
-    ensures { result ≡ last_mark (table_of sheet.now) prices.now (positions_of positions.now) }
+fn last_mark(market: &Market<Sheet>, positions: &[Position]) -> Option<i64>
+    ensures { result ≡ last_mark (table_of market.now.model.now) market.now.prices.now (positions_of positions.now) }
 {
-    match positions.last() {
-        Some(position) => mark(sheet, prices, position),
-        None => None,
-    }
+    market.mark(positions.last()?)
 }
 
 // The figure that a word writes.
@@ -87,10 +78,7 @@ fn figure_of_word(word: &str) -> Option<Figure>
 pub(crate) fn figure_in(text: &str) -> Option<Figure>
     ensures { result ≡ figure_in (only (words text.now)) }
 {
-    match only_word(text) {
-        Some(word) => figure_of_word(word),
-        None => None,
-    }
+    figure_of_word(only_word(text)?)
 }
 
 impl Example {
@@ -98,24 +86,22 @@ impl Example {
     fn figure_for(&self, question: Question<'_>) -> Option<Figure>
         ensures { result ≡ figure_for (table_of self.now.sheet) self.now.prices (positions_of self.now.positions.items) (question_of question.entry) }
     {
+        let market = Market {
+            model: &self.sheet,
+            prices: &self.prices,
+        };
         let positions = self.positions.as_slice();
         match question {
             Question::Shock(contract, scenario) => number(Some(
                 self.sheet.shock(contract, scenario),
             )),
-            Question::Mark => number(last_mark(&self.sheet, &self.prices, positions)),
-            Question::Loss(k, scenario) => number(loss_in(
-                &self.sheet,
-                &self.prices,
-                positions,
-                k,
-                scenario,
-            )),
-            Question::Risk => number(open_risk(&self.sheet, &self.prices, positions)),
-            Question::Need => number(need(&self.sheet, &self.prices, positions, 0)),
+            Question::Mark => number(last_mark(&market, positions)),
+            Question::Loss(k, scenario) => number(market.loss_in(positions, k, scenario)),
+            Question::Risk => number(market.open_risk(positions)),
+            Question::Need => number(market.need(positions, 0)),
             Question::Deficit(needed, collateral) => number(deficit(needed, collateral)),
             Question::Greatest(count, deficits) => number(greatest_of(deficits, count)),
-            Question::Utilisation(risk, backing) => utilisation(risk, backing),
+            Question::Utilisation(risk, backing) => percentage(risk, backing),
         }
     }
 
@@ -123,9 +109,6 @@ impl Example {
     pub(crate) fn figure(&self, word: &str, numbers: &[i64]) -> Option<Figure>
         ensures { result ≡ figure_if_asked (table_of self.now.sheet) self.now.prices (positions_of self.now.positions.items) (asked word.now numbers.now) }
     {
-        match question_in(word, numbers) {
-            Some(question) => self.figure_for(question),
-            None => None,
-        }
+        self.figure_for(question_in(word, numbers)?)
     }
 }

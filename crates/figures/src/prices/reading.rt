@@ -1,10 +1,10 @@
 //! How prices are set and read.
-ghost use Rattle.std.specs.Prelude.{◌≡◌, ◌≤◌, set, replicate, if◌then◌else◌, Some, None, slice_set};
+ghost use Rattle.std.specs.Prelude.{◌≡◌, ◌≤◌, set, replicate, if◌then◌else◌, Some, None, is_ok, slice_set};
 ghost use Rattle.figures.specs.Markets.{has_price};
 ghost use Rattle.figures.specs.Priced.{price_at, priced, fair_price};
 
 use crate::bounds::{CONTRACTS, MOST_PRICE};
-use crate::prices::Prices;
+use crate::prices::{Prices, UnfairPrice};
 
 impl Prices {
     /// No contract has a price.
@@ -16,17 +16,17 @@ impl Prices {
         }
     }
 
-    /// Sets a contract's price. `false`, with nothing changed, where the price is 0 or above 100,000.
-    pub fn set(&mut self, contract: u8, price: u32) -> bool
-        ensures said { result ≡ fair_price price }
+    /// Sets a contract's price. Refused, with nothing changed, where the price is 0 or above 100,000.
+    pub fn set(&mut self, contract: u8, price: u32) -> Result<(), UnfairPrice>
+        ensures said { is_ok result ≡ fair_price price }
         ensures after { self.new.ticks ≡ (if fair_price price then slice_set self.old.ticks contract (Some price) else self.old.ticks) }
     {
         if price < 1 || price > MOST_PRICE {
-            return false;
+            return Err(UnfairPrice);
         }
         let place = contract as usize;
         self.ticks[place] = Some(price);
-        true
+        Ok(())
     }
 
     /// The contract's price, `None` where it has none.
@@ -48,9 +48,6 @@ impl Prices {
         ensures value { result ≡ priced self.now.ticks contract }
         ensures small { result ≤ 100000 }
     {
-        match self.get(contract) {
-            Some(price) => price,
-            None => 0,
-        }
+        self.get(contract).unwrap_or(0)
     }
 }

@@ -16,8 +16,8 @@ use money::vaults::{deposit, put_back, settle};
 use orders::{Holder, Lot};
 use refusals::Refusal;
 use scenario::ScenarioModel;
+use statements::days::Day;
 use statements::statement::Statement;
-use statements::stating::fill;
 
 impl<M: ScenarioModel> Session<M> {
     /// The model.
@@ -100,10 +100,11 @@ impl<M: ScenarioModel> Session<M> {
         ensures rules { Answered (M.ScenarioModel.table self.now.model) (open_ledger self.now) (statementCall trader) (answered (λ _. stated (statement_in place.new)) result) (open_ledger self.now) }
         ensures kept { AsItWas result place.old place.new }
     {
-        if fill(&self.model, &self.book, trader, place) {
-            Ok(())
-        } else {
-            Err(Refusal::Unknown)
-        }
+        let day = Day {
+            model: &self.model,
+            book: &self.book,
+        };
+        *place = day.statement(trader).ok_or(Refusal::Unknown)?;
+        Ok(())
     }
 }

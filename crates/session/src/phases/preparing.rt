@@ -17,7 +17,7 @@ use money::vaults::deposit;
 use orders::{Holder, Lot};
 use refusals::Refusal;
 use scenario::ScenarioModel;
-use statements::needs::needs_of;
+use statements::days::Day;
 
 impl<M: ScenarioModel> Preparation<M> {
     /// A preparation over a model, with no trader, client, trade or price.
@@ -81,7 +81,11 @@ impl<M: ScenarioModel> Preparation<M> {
         ensures model { result.model ≡ self.model }
     {
         let Preparation { model, book } = self;
-        let needs = needs_of(&model, &book);
+        let day = Day {
+            model: &model,
+            book: &book,
+        };
+        let needs = day.needs();
         let mut opened = book;
         enter_needs(&mut opened, &needs);
         Session {

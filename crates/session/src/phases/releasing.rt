@@ -21,8 +21,7 @@ use money::vaults::pay_out;
 use orders::Holder;
 use refusals::Refusal;
 use scenario::ScenarioModel;
-use statements::needs::need_of;
-use statements::stating::limit_of;
+use statements::days::Day;
 
 // Whether an amount less leaves a client's collateral below what it needs now, or needed when the session was opened.
 fn leaves_less(client: Client, need: i64, amount: Fund) -> bool
@@ -38,7 +37,7 @@ fn is_short<M: ScenarioModel>(model: &M, book: &Book, stub: Stub) -> bool
     let Holder::Client(client) = stub.holder else {
         return false;
     };
-    match (book.client(client), need_of(model, book, client)) {
+    match (book.client(client), (Day { model, book }).need_of(client)) {
         (Some(row), Some(need)) => leaves_less(row, need, stub.amount),
         _ => false,
     }
@@ -62,15 +61,16 @@ fn is_uncovered<M: ScenarioModel>(model: &M, book: &Book, tried: &Book, stub: St
     let Some(trader) = trader_of(book, stub.holder) else {
         return false;
     };
-    is_short(model, book, stub) || limit_of(model, tried, trader) < 0
+    let then = Day { model, book: tried };
+    is_short(model, book, stub) || then.limit_of(trader) < 0
 }
 
 // Whether a cancellation that was tried lowers a trader's limit, and to below zero.
 fn is_sunk<M: ScenarioModel>(model: &M, book: &Book, tried: &Book, trader: u8) -> bool
     ensures { result ≡ (int_lt (limit (M.ScenarioModel.table model.now) (ledger_in tried.now) trader) (limit (M.ScenarioModel.table model.now) (ledger_in book.now) trader) && int_lt (limit (M.ScenarioModel.table model.now) (ledger_in tried.now) trader) (pos 0)) }
 {
-    let left = limit_of(model, tried, trader);
-    left < limit_of(model, book, trader) && left < 0
+    let left = (Day { model, book: tried }).limit_of(trader);
+    left < (Day { model, book }).limit_of(trader) && left < 0
 }
 
 impl<M: ScenarioModel> Session<M> {

@@ -1,5 +1,5 @@
 //! How the figures of clients are worked out.
-ghost use Rattle.std.specs.Prelude.{◌≡◌, ◌<◌, ◌≤◌, true, [], map, length, take, pos, ◌≤ℤ◌, if◌then◌else◌, Some, None, nat_eq, unsigned_abs};
+ghost use Rattle.std.specs.Prelude.{◌≡◌, ◌<◌, ◌≤◌, true, [], map, length, pos, ◌≤ℤ◌, if◌then◌else◌, Some, None, nat_eq, unsigned_abs};
 ghost use Rattle.cells.specs.Listed.{listed};
 ghost use Rattle.figures.specs.Figures.{margin, need, deficit};
 ghost use Rattle.figures.specs.Sums.{those_below};
@@ -11,31 +11,16 @@ ghost use Rattle.book.specs.Means.{client_in};
 ghost use Rattle.statements.specs.Figured.{figures_in, figured};
 
 use crate::clients::ClientFigures;
-use crate::collecting::{Asked, collect};
-use book::books::Book;
+use crate::collecting::{HeldBy, collect};
+use crate::days::Day;
 use book::clients::Client;
 use book::funds::Fund;
 use cells::rows::Rows;
 use figures::accounts::Account;
 use figures::bounds::MOST_SUBPORTFOLIOS;
-use figures::needs::account;
+use figures::positions::Positions;
 use rules::bounds::MOST_CLIENTS;
 use scenario::ScenarioModel;
-
-/// The margins of a client's positions, and what is needed behind them.
-pub(crate) fn account_of<M: ScenarioModel>(
-    model: &M,
-    book: &Book,
-    number: u8,
-    client: Client,
-) -> Account
-    ensures margins { take (M.ScenarioModel.table model.now).subportfolios result.margins ≡ map (margin (M.ScenarioModel.table model.now) (held (ledger_in book.now) number)) (those_below (M.ScenarioModel.table model.now).subportfolios (λ _. true)) }
-    ensures need { result.need ≡ need (M.ScenarioModel.table model.now) (market (ledger_in book.now)) (held (ledger_in book.now) number) client.cash.amount }
-    ensures small { unsigned_abs result.need ≤ 20000000000000000 }
-{
-    let found = collect(book.cells(), Asked::HeldBy(number));
-    account(model, book.prices(), &found, client.cash)
-}
 
 /// What a collateral lacks of a need, not below 0.
 fn lacking(need: i64, collateral: Fund) -> i64
@@ -47,45 +32,13 @@ fn lacking(need: i64, collateral: Fund) -> i64
     (need - collateral.amount).max(0)
 }
 
-/// The figures of a client, of what stands of it in the book.
-fn figures_of<M: ScenarioModel>(model: &M, book: &Book, number: u8, client: Client) -> ClientFigures
-    requires { client_in client ≡ client_of (ledger_in book.now) number }
-    ensures { figures_in (M.ScenarioModel.table model.now).subportfolios result ≡ client_figures (M.ScenarioModel.table model.now) (ledger_in book.now) number }
-{
-    let account = account_of(model, book, number, client);
-    let margins = account.margins;
-    ClientFigures {
-        number,
-        margins,
-        need: account.need,
-        collateral: client.collateral.amount,
-        deficit: lacking(account.need, client.collateral),
-    }
-}
-
-/// The figures of a client, where it is the trader's.
-fn figures_if<M: ScenarioModel>(
-    model: &M,
-    book: &Book,
-    trader: u8,
-    number: u8,
-) -> Option<ClientFigures>
-    requires { number < length (ledger_in book.now).clients }
-    ensures { figured (M.ScenarioModel.table model.now).subportfolios result ≡ (if nat_eq (client_of (ledger_in book.now) number).trader trader then Some (client_figures (M.ScenarioModel.table model.now) (ledger_in book.now) number) else None) }
-{
-    match book.client(number as u64) {
-        Some(client) if client.trader == trader => Some(figures_of(model, book, number, client)),
-        _ => None,
-    }
-}
-
 /// Room for the figures of every client, with none in it.
 pub(crate) fn no_figures() -> Rows<ClientFigures, 128>
     ensures { listed result ≡ [] }
 {
     let nobody = ClientFigures {
         number: 0,
-        margins: [0; MOST_SUBPORTFOLIOS],
+        margins: Rows::of([0; MOST_SUBPORTFOLIOS]),
         need: 0,
         collateral: 0,
         deficit: 0,
@@ -93,19 +46,53 @@ pub(crate) fn no_figures() -> Rows<ClientFigures, 128>
     Rows::of([nobody; MOST_CLIENTS])
 }
 
-/// The figures of a trader's clients, by rising number.
-pub(crate) fn all_figures<M: ScenarioModel>(
-    model: &M,
-    book: &Book,
-    trader: u8,
-) -> Rows<ClientFigures, 128>
-    ensures { map (figures_in (M.ScenarioModel.table model.now).subportfolios) (listed result) ≡ map (client_figures (M.ScenarioModel.table model.now) (ledger_in book.now)) (clients_of (ledger_in book.now) trader) }
-{
-    let mut found = no_figures();
-    for number in 0..book.client_count() {
-        if let Some(figures) = figures_if(model, book, trader, number) {
-            let _ = found.push(figures);
+impl<'a, M: ScenarioModel> Day<'a, M> {
+    /// The margins of a client's positions, and what is needed behind them.
+    pub(crate) fn account_of(&self, number: u8, client: Client) -> Account
+        ensures margins { listed result.margins ≡ map (margin (M.ScenarioModel.table self.now.model.now) (held (ledger_in self.now.book.now) number)) (those_below (M.ScenarioModel.table self.now.model.now).subportfolios (λ _. true)) }
+        ensures need { result.need ≡ need (M.ScenarioModel.table self.now.model.now) (market (ledger_in self.now.book.now)) (held (ledger_in self.now.book.now) number) client.cash.amount }
+        ensures small { unsigned_abs result.need ≤ 20000000000000000 }
+    {
+        let found = collect(self.book.cells(), &HeldBy(number));
+        self.market().account(Positions::of(&found), client.cash)
+    }
+
+    /// The figures of a client, of what stands of it in the book.
+    fn figures_of(&self, number: u8, client: Client) -> ClientFigures
+        requires { client_in client ≡ client_of (ledger_in self.now.book.now) number }
+        ensures { figures_in result ≡ client_figures (M.ScenarioModel.table self.now.model.now) (ledger_in self.now.book.now) number }
+    {
+        let Account { margins, need } = self.account_of(number, client);
+        ClientFigures {
+            number,
+            margins,
+            need,
+            collateral: client.collateral.amount,
+            deficit: lacking(need, client.collateral),
         }
     }
-    found
+
+    /// The figures of a client, where it is the trader's.
+    fn figures_if(&self, trader: u8, number: u8) -> Option<ClientFigures>
+        requires { number < length (ledger_in self.now.book.now).clients }
+        ensures { figured result ≡ (if nat_eq (client_of (ledger_in self.now.book.now) number).trader trader then Some (client_figures (M.ScenarioModel.table self.now.model.now) (ledger_in self.now.book.now) number) else None) }
+    {
+        match self.book.client(number as u64) {
+            Some(client) if client.trader == trader => Some(self.figures_of(number, client)),
+            _ => None,
+        }
+    }
+
+    /// The figures of a trader's clients, by rising number.
+    pub(crate) fn all_figures(&self, trader: u8) -> Rows<ClientFigures, 128>
+        ensures { map figures_in (listed result) ≡ map (client_figures (M.ScenarioModel.table self.now.model.now) (ledger_in self.now.book.now)) (clients_of (ledger_in self.now.book.now) trader) }
+    {
+        let mut found = no_figures();
+        for number in 0..self.book.client_count() {
+            if let Some(figures) = self.figures_if(trader, number) {
+                found.push(figures);
+            }
+        }
+        found
+    }
 }

@@ -1,17 +1,12 @@
-use Rattle.std.proofs.Common.{sym, ◌∙◌}
-use Rattle.figures.specs.Markets.{is_priced}
+use Rattle.std.proofs.Common.{◌∙◌, rules, tests}
+use Rattle.std.proofs.lemmas.Iterator.{YieldsList-from_slice}
+use Rattle.std.proofs.lemmas.Iterator.Search.{all_from_yields_List}
+use Rattle.figures.specs.Markets.{has_price, is_priced}
 use Rattle.figures.specs.Positions.{position_of}
-use Rattle.figures.proofs.Each.{every_next, every_fails, every_done}
+use Rattle.figures.proofs.Each.{every_is}
 use Rattle.figures.proofs.answers.all_priced.Goals as goal
-
-pub loop-position-preserved : goal.loop-position-preserved
-loop-position-preserved c =
-    every_next position_of (is_priced c.args.prices.now) c.args.positions.now c.loop-position.position-index c.position-item.result c.loop-position-test.true c.position-item.is c.loop-position.invariant (sym c.has.ensures ∙ c.if-not-has.false)
-
-pub returns-then-not-has : goal.returns-then-not-has
-returns-then-not-has c =
-    sym (every_fails position_of (is_priced c.args.prices.now) c.args.positions.now c.loop-position.position-index c.position-item.result c.loop-position-test.true c.position-item.is (sym c.has.ensures ∙ c.if-not-has.true))
 
 pub returns : goal.returns
 returns c =
-    sym (every_done position_of (is_priced c.args.prices.now) c.args.positions.now c.loop-position.position-index c.loop-position-test.false c.loop-position.invariant)
+    all_from_yields_List (λ x. has_price c.args.prices.now x.contract) _ _ _ c.all.ensures.ran (YieldsList-from_slice c.args.positions.all.now cc) (λ x b q k. search (rules, tests))
+    ∙ every_is position_of (is_priced c.args.prices.now) c.args.positions.all.now

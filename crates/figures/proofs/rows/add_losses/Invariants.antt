@@ -1,8 +1,8 @@
 use Rattle.figures.specs.Figures.{moves}
-use Rattle.figures.specs.Losses.{lost, most_lost, Added}
+use Rattle.figures.specs.Losses.{Added}
 use Rattle.figures.specs.Positions.{position_of}
 use Rattle.figures.proofs.rows.add_losses.Given as goal
 
 abbrev pub invariant-loop-scenario : goal.invariant-loop-scenario
 invariant-loop-scenario g l =
-    Added l.initial.row l.row l.scenario (λ s. lost l.how l.mark (moves (g.M.ScenarioModel.table l.model) s (position_of l.position))) (most_lost l.how)
+    Added l.initial.row l.row l.scenario (λ s. g.C.Counting.lost l.mark (moves (g.M.ScenarioModel.table l.model) s (position_of l.position))) g.C.Counting.most

@@ -1,9 +1,9 @@
-use Rattle.std.proofs.Common.{◌≡◌, true, [], map, length, get_or, take}
+use Rattle.std.proofs.Common.{◌≡◌, true, [], map, get_or}
+use Rattle.cells.specs.Listed.{listed}
 use Rattle.figures.specs.Losses.{at}
 use Rattle.figures.specs.Sums.{greatest_below, those_below}
 use Rattle.figures.proofs.tally.greatest_by_row.Given as goal
 
 abbrev pub invariant-loop-k : goal.invariant-loop-k
 invariant-loop-k g l =
-    (length l.most ≡ 8)
-    × (take l.k l.most ≡ map (λ k. greatest_below ((g.M.ScenarioModel.table l.model).scenarios k) (at (get_or l.rows k []))) (those_below l.k (λ _. true)))
+    listed l.greatest ≡ map (λ k. greatest_below ((g.M.ScenarioModel.table l.model).scenarios k) (at (get_or l.rows k []))) (those_below l.k (λ _. true))

@@ -5,23 +5,22 @@ use Rattle.figures.specs.Positions.{position_of, positions_of}
 use Rattle.book.specs.Filled.{is_filled}
 use Rattle.book.specs.Means.{trade_in}
 use Rattle.book.proofs.Fills.{filled_at}
-use Rattle.statements.specs.Asking.{asks}
 use Rattle.statements.proofs.Gathered.{collect_room, collect_yes, collect_no, collect_all}
 use Rattle.statements.proofs.Picking.{some_if, none_if}
 use Rattle.statements.proofs.collecting.collect.Goals as goal
 use Rattle.statements.proofs.collecting.collect.Goals.{in-Some, in_default}
 
 pub position_in-requires : goal.position_in-requires
-position_in-requires c =
+position_in-requires g c =
     ap is_filled c.cell-item.is ∙ filled_at c.args.cells.now c.loop-cell.cell-index c.cell-item.result c.loop-cell-test.true c.requires.1
 
 pub loop-cell-init : goal.loop-cell-init
-loop-cell-init c = ap positions_of c.of-found.ensures
+loop-cell-init g c = ap positions_of c.of-found.ensures
 
 pub loop-cell-preserved : goal.loop-cell-preserved
-loop-cell-preserved c =
+loop-cell-preserved g c =
     let l = c.loop-cell in
-    let p = asks c.args.asked in
+    let p = g.A.Asked.asks c.args.asked.now in
     let cells = c.args.cells.now in
     let cell = c.cell-item.result in
     elim c.match-position_in.branch [
@@ -37,4 +36,4 @@ loop-cell-preserved c =
     ]
 
 pub returns : goal.returns
-returns c = collect_all (asks c.args.asked) c.args.cells.now c.loop-cell.cell-index (listed c.loop-cell.found) c.loop-cell-test.false c.loop-cell.invariant
+returns g c = collect_all (g.A.Asked.asks c.args.asked.now) c.args.cells.now c.loop-cell.cell-index (listed c.loop-cell.found) c.loop-cell-test.false c.loop-cell.invariant

@@ -1,9 +1,8 @@
 use Rattle.std.proofs.Common.{◌≡◌, take}
 use Rattle.cells.specs.Listed.{listed}
 use Rattle.figures.specs.Positions.{positions_of}
-use Rattle.statements.specs.Asking.{asks}
 use Rattle.statements.proofs.Gathered.{collected}
 use Rattle.statements.proofs.collecting.collect.Given as goal
 
 abbrev pub invariant-loop-cell : goal.invariant-loop-cell
-invariant-loop-cell l = positions_of (listed l.found) ≡ collected (asks l.asked) (take l.cell-index l.cells)
+invariant-loop-cell g l = positions_of (listed l.found) ≡ collected (g.A.Asked.asks l.asked) (take l.cell-index l.cells)

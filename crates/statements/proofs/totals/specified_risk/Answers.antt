@@ -1,6 +1,7 @@
-use Rattle.std.proofs.Common.{◌≡◌, ap, ◌∙◌, w64, SFits, rules}
+use Rattle.std.proofs.Common.{◌≡◌, ◌≤◌, length, ap, ◌∙◌, arith, w64, SFits, rules}
 use Rattle.std.proofs.lemmas.Int.{to_z-of_z}
 use Rattle.std.proofs.lemmas.Bool.{both_ways}
+use Rattle.std.proofs.lemmas.List.{length-take}
 use Rattle.cells.specs.Listed.{listed}
 use Rattle.deficits.specs.Summed.{amounts, summable}
 use Rattle.figures.specs.Sums.{total_greatest}
@@ -9,18 +10,19 @@ use Rattle.statements.proofs.Picking.{some_if, none_if}
 use Rattle.statements.proofs.totals.specified_risk.Goals as goal
 use Rattle.statements.proofs.totals.specified_risk.Goals.{After-sum_of_greatest}
 
-amounts_are : (c : After-sum_of_greatest) → amounts c.as_slice-2.result.now ≡ lacks (listed c.args.clients.now)
-amounts_are c = ap amounts c.as_slice-2.ensures.value ∙ c.deficits_of-deficits.ensures ∙ ap lacks c.as_slice.ensures.value
+amounts_are : (c : After-sum_of_greatest) → amounts c.as_slice.result.now ≡ lacks (listed c.args.clients.now)
+amounts_are c = ap amounts c.as_slice.ensures.value ∙ c.deficits_of-deficits.ensures
 
 pub unreachable-requires : goal.unreachable-requires
 unreachable-requires c =
-    let ds = c.as_slice-2.result.now in
+    let ds = c.as_slice.result.now in
+    let few : length (listed c.args.clients.now) ≤ 128 = omega (arith, length-take c.args.clients.now.used c.args.clients.now.at, c.args.clients.now.within) in
     both_ways (summable ds) (none_if (summable ds) (total_greatest c.args.defaults (amounts ds)) c.in-None.ensures.value)
-    (lacks_summable ds (listed c.args.clients.now) c.as_slice.ensures.few (amounts_are (goal.at.unreachable-requires c).After-sum_of_greatest))
+    (lacks_summable ds (listed c.args.clients.now) few (amounts_are (goal.at.unreachable-requires c).After-sum_of_greatest))
 
 pub returns : goal.returns
 returns c =
-    let ds = c.as_slice-2.result.now in
+    let ds = c.as_slice.result.now in
     let n = c.args.defaults in
     let f : SFits w64 c.in-Some.sum = search rules in
     let bits = to_z-of_z w64 c.in-Some.sum f in

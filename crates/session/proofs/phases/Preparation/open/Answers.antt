@@ -9,6 +9,6 @@ pub returns : goal.returns
 returns g c =
     let l = ledger_in c.args.self.book in
     record {
-      ledger = c.enter_needs.ensures ∙ ap (λ (xs : List Client). with_clients l xs l.passed) (same_openings (λ (n : ℕ). get_or c.needs_of-needs.result n (pos 0)) (need_of (g.M.ScenarioModel.table c.args.self.model) l) l.clients c.needs_of-needs.ensures.known);
+      ledger = c.enter_needs.ensures ∙ ap (λ (xs : List Client). with_clients l xs l.passed) (same_openings (λ (n : ℕ). get_or c.needs-needs.result n (pos 0)) (need_of (g.M.ScenarioModel.table c.args.self.model) l) l.clients c.needs-needs.ensures.known);
       model = refl;
     }
