@@ -77,7 +77,7 @@ pub(crate) fn greatest_by_row<M: ScenarioModel>(
 {
     let mut greatest = Rows::of([0; MOST_SUBPORTFOLIOS]);
     for k in 0..model.subportfolios() {
-        greatest.push(greatest_among(&rows[k as usize], model.scenarios(k)));
+        let _ = greatest.push(greatest_among(&rows[k as usize], model.scenarios(k)));
     }
     greatest
 }
