@@ -17,12 +17,13 @@ pub use layout::kinds::Kind;
 use named::NamedFile;
 use refusals::Refusal;
 
-#[tactic(auto, unfolding(crate::specs::Causes::sheet_cause, crate::specs::Causes::wrong_kind))]
 /// The kind of an accepted file, or the first cause, in the order of the table, for which it is refused.
+#[tactic(auto, unfolding(crate::specs::Causes::sheet_cause, crate::specs::Causes::wrong_kind))]
 pub fn inspect(file: &[u8]) -> Result<Kind, Refusal>
     ensures answer { refusal_of result ≡ sheet_cause file.now }
     ensures named { IfOk result (λ k. kind_number k ≡ kind file.now) }
 {
+    // Kept a row of tests: each is a line of the table, in its order, and says its cause beside it.
     if counts::has_wrong_length(file) {
         return Err(Refusal::WrongLength);
     }

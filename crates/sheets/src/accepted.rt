@@ -1,7 +1,7 @@
-//! A file that no cause refuses, and one of factors.
+//! A file that no cause refuses, and a place in one of factors.
 
-ghost use Rattle.std.specs.Prelude.{◌≡◌, true};
-ghost use Rattle.layout.specs.Fields.{kind};
+ghost use Rattle.std.specs.Prelude.{◌≡◌, ◌<◌, true};
+ghost use Rattle.layout.specs.Fields.{kind, contracts, scenarios};
 ghost use Rattle.layout.specs.Kinds.{kind_number};
 ghost use Rattle.inspection.specs.Causes.{accepted};
 
@@ -16,10 +16,14 @@ pub(crate) struct Accepted<'a> {
     ghost named: { kind_number of ≡ kind file.now },
 }
 
-/// An accepted file of factors.
+/// A record and a scenario of an accepted file of factors.
 #[derive(Clone, Copy)]
-pub(crate) struct Factors<'a> {
+pub(crate) struct FactorCell<'a> {
     pub(crate) file: &'a [u8],
+    pub(crate) j: u16,
+    pub(crate) s: u16,
     ghost passed: { accepted file.now ≡ true },
     ghost factored: { kind file.now ≡ 1 },
+    ghost known: { j < contracts file.now },
+    ghost stated: { s < scenarios file.now },
 }

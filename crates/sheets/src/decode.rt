@@ -3,13 +3,13 @@
 #![tactic(auto, unfolding(crate::specs::Cells::shock_cell, crate::specs::Cells::multiplier_cell, crate::specs::Sheets::record_shock))]
 
 ghost use Rattle.std.specs.Prelude.{◌≡◌, ℕ, ◌<◌, ◌≤◌, pos, ◌*ℤ◌, slice_index, slice_index_or, unsigned_abs};
-ghost use Rattle.layout.specs.Fields.{contracts, scenarios, factors, second, exposure, factor_shock};
+ghost use Rattle.layout.specs.Fields.{kind, contracts, scenarios, factors, second, exposure, factor_shock};
 ghost use Rattle.rounding.specs.Rounding.{parts, nearest};
 ghost use Rattle.sheets.specs.Sheets.{find, moved_by_factors, record_shock};
 ghost use Rattle.sheets.specs.Cells.{shock_cell, multiplier_cell, IsRow};
 ghost use Rattle.sheets.specs.Decoded.{record_in, cell_in};
 
-use crate::accepted::{Accepted, Factors};
+use crate::accepted::{Accepted, FactorCell};
 use crate::index::Index;
 use crate::multipliers::Multipliers;
 use crate::shocks::Shocks;
@@ -28,6 +28,17 @@ fn find_record(file: &[u8], contract: usize) -> Option<u16>
     (0..contract_count(file)).find(|&j| number_at(file, j) as usize == contract)
 }
 
+// The multiplier of record `j`, 0 where there is none.
+fn multiplier_at(file: &[u8], j: usize) -> u16
+    ensures { result ≡ multiplier_cell file.now j }
+{
+    if j < contract_count(file) as usize {
+        second_at(file, j as u16)
+    } else {
+        0
+    }
+}
+
 impl Accepted<'_> {
     pub(crate) fn read_index(&self) -> Index
         ensures count { result.count ≡ contracts self.now.file.now }
@@ -39,6 +50,15 @@ impl Accepted<'_> {
         }
     }
 
+    pub(crate) fn read_multipliers(&self) -> Multipliers
+        requires { kind self.now.file.now ≡ 1 }
+        ensures { (j : ℕ) → j < contracts self.now.file.now → slice_index result.cells j ≡ second self.now.file.now j }
+    {
+        Multipliers {
+            cells: array::from_fn(|j| multiplier_at(self.file, j)),
+        }
+    }
+
     // The gain of one bought contract of record `j` in scenario `s`.
     fn shock_of(&self, j: u16, s: u16) -> i32
         requires known { j < contracts self.now.file.now }
@@ -46,7 +66,12 @@ impl Accepted<'_> {
         ensures { result ≡ record_shock self.now.file.now j s }
     {
         match self.of {
-            Kind::Factors => Factors { file: self.file }.gain(j, s),
+            Kind::Factors => FactorCell {
+                file: self.file,
+                j,
+                s,
+            }
+            .gain(),
             Kind::Series => series_shock_at(self.file, j, s),
             Kind::Strikes => if s == j + 1 {
                 payoff_field(self.file) as i32
@@ -88,65 +113,40 @@ impl Accepted<'_> {
     }
 }
 
-// The multiplier of record `j`, 0 where there is none.
-fn multiplier_at(file: &[u8], j: usize) -> u16
-    ensures { result ≡ multiplier_cell file.now j }
-{
-    if j < contract_count(file) as usize {
-        second_at(file, j as u16)
-    } else {
-        0
-    }
-}
-
 fn product(a: i32, b: i32) -> i64
     ensures { result ≡ a *ℤ b }
 {
     i64::from(a) * i64::from(b)
 }
 
-impl Factors<'_> {
-    pub(crate) fn read_multipliers(&self) -> Multipliers
-        ensures { (j : ℕ) → j < contracts self.now.file.now → slice_index result.cells j ≡ second self.now.file.now j }
-    {
-        Multipliers {
-            cells: array::from_fn(|j| multiplier_at(self.file, j)),
-        }
-    }
-
+impl FactorCell<'_> {
     // One exposure times its factor's shock.
-    fn part(&self, j: u16, s: u16, f: u16) -> i64
-        requires known { j < contracts self.now.file.now }
-        requires stated { s < scenarios self.now.file.now }
-        requires moved { f < factors self.now.file.now }
-        ensures value { result ≡ exposure self.now.file.now j f *ℤ factor_shock self.now.file.now s f }
+    fn part(&self, f: u16) -> i64
+        requires { f < factors self.now.file.now }
+        ensures value { result ≡ exposure self.now.file.now self.now.j f *ℤ factor_shock self.now.file.now self.now.s f }
         ensures bound { unsigned_abs result ≤ 125000000000 }
     {
         product(
-            exposure_at(self.file, j, f),
-            factor_shock_at(self.file, s, f),
+            exposure_at(self.file, self.j, f),
+            factor_shock_at(self.file, self.s, f),
         )
     }
 
-    fn total(&self, j: u16, s: u16) -> i64
-        requires known { j < contracts self.now.file.now }
-        requires stated { s < scenarios self.now.file.now }
-        ensures { result ≡ moved_by_factors self.now.file.now j s }
+    fn total(&self) -> i64
+        ensures { result ≡ moved_by_factors self.now.file.now self.now.j self.now.s }
     {
         // Kept a loop: what bounds a signed sum is the loop's invariant, and `sum` and `fold` have no place for one.
         let mut sum = 0;
         for f in 0..factor_count(self.file) {
-            sum += self.part(j, s, f);
+            sum += self.part(f);
         }
         sum
     }
 
-    // The gain of one bought contract of record `j` in scenario `s`.
-    fn gain(&self, j: u16, s: u16) -> i32
-        requires known { j < contracts self.now.file.now }
-        requires stated { s < scenarios self.now.file.now }
-        ensures { result ≡ nearest parts (moved_by_factors self.now.file.now j s) }
+    // The gain of one bought contract of the record in the scenario.
+    fn gain(&self) -> i32
+        ensures { result ≡ nearest parts (moved_by_factors self.now.file.now self.now.j self.now.s) }
     {
-        rounded(self.total(j, s)) as i32
+        rounded(self.total()) as i32
     }
 }

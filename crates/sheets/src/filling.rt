@@ -7,7 +7,7 @@ ghost use Rattle.inspection.specs.Causes.{sheet_cause};
 ghost use Rattle.sheets.specs.Sheets.{sheet_table, empty_table};
 ghost use Rattle.sheets.specs.Tables.{factor_table, series_table, strike_table, table_of, kind_in, contracts_in, kind_of_sheet, Holds};
 
-use crate::accepted::{Accepted, Factors};
+use crate::accepted::Accepted;
 use crate::kinds::{EmptySheet, FactorSheet, SeriesSheet, Sheet, StrikeSheet};
 use inspection::{Kind, inspect};
 use layout::fields::payoff_field;
@@ -25,7 +25,7 @@ impl Accepted<'_> {
         };
         FactorSheet {
             series,
-            multipliers: Factors { file: self.file }.read_multipliers(),
+            multipliers: self.read_multipliers(),
         }
     }
 

@@ -17,6 +17,7 @@ pub struct SeriesSheet {
     pub(crate) shocks: Shocks,
 }
 
+// Kept beside the series, and no row of a struct with its shocks: a series has no multipliers.
 /// A sheet of factors: contracts have a multiplier, and a shock in each scenario from their exposures to factors that
 /// move.
 #[derive(Clone, Copy)]

@@ -4,9 +4,9 @@ use Rattle.rounding.specs.Rounding.{parts, nearest}
 use Rattle.inspection.proofs.Accepted.{passes}
 use Rattle.sheets.specs.Sheets.{moved_by_factors}
 use Rattle.sheets.proofs.Records.{nearest_small, total_within}
-use Rattle.sheets.proofs.accepted.Factors.gain.Goals as goal
+use Rattle.sheets.proofs.accepted.FactorCell.gain.Goals as goal
 
-rounds : (c : goal.After-rounded) → c.rounded.result ≡ nearest parts (moved_by_factors c.args.self.now.file.now c.args.j c.args.s)
+rounds : (c : goal.After-rounded) → c.rounded.result ≡ nearest parts (moved_by_factors c.args.self.now.file.now c.args.self.now.j c.args.self.now.s)
 rounds c =
     let ft : SFits w64 c.total.result = search rules in
     let n : c.rounded.result ≡ nearest parts c.total.result = simp to_z-of_z at c.rounded.ensures.value in
@@ -15,7 +15,7 @@ rounds c =
 small : (c : goal.After-rounded) → nat_abs c.rounded.result ≤ 100000000
 small c =
     let P : ℤ → Type 0 = λ z. nat_abs z ≤ 100000000 in
-    subst P (sym (rounds c)) (nearest_small (moved_by_factors c.args.self.now.file.now c.args.j c.args.s) (total_within _ (passes _ c.args.self.now.passed) c.args.self.now.factored _ _ c.requires.known c.requires.stated))
+    subst P (sym (rounds c)) (nearest_small (moved_by_factors c.args.self.now.file.now c.args.self.now.j c.args.self.now.s) (total_within _ (passes _ c.args.self.now.passed) c.args.self.now.factored _ _ c.args.self.now.known c.args.self.now.stated))
 
 pub overflow_cast-result : goal.overflow_cast-result
 overflow_cast-result c =

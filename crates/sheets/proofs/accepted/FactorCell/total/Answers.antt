@@ -3,7 +3,7 @@ use Rattle.inspection.proofs.Accepted.{passes, few_factors}
 use Rattle.layout.specs.Fields.{factors}
 use Rattle.sheets.specs.Sheets.{moved_by_factors}
 use Rattle.sheets.proofs.Records.{total_none, total_step}
-use Rattle.sheets.proofs.accepted.Factors.total.Goals as goal
+use Rattle.sheets.proofs.accepted.FactorCell.total.Goals as goal
 
 pub loop-f-init : goal.loop-f-init
 loop-f-init c = (sym (total_none _), omega arith)
