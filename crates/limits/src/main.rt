@@ -52,30 +52,6 @@ fn read_file(rt: &HostRuntime, path: &str) -> io::Result<Vec<u8>> {
     Ok(bytes)
 }
 
-// The answer to a line that names a file.
-fn answer_sheet(rt: &HostRuntime, sheets: &mut SheetSet, path: &str) -> Result<String, Failure> {
-    let file = read_file(rt, path).map_err(|_| Failure::NoFile)?;
-    Ok(add_sheet(rt.alloc(), sheets, file.as_slice())?)
-}
-
-// The answer to a line, `None` to one that asks nothing.
-fn answer_to(
-    rt: &HostRuntime,
-    sheets: &mut SheetSet,
-    line: &str,
-) -> Result<Option<String>, Failure> {
-    match request_of(line) {
-        Request::Nothing => Ok(None),
-        Request::Sheet(path) => Ok(Some(answer_sheet(rt, sheets, path)?)),
-        Request::Contract(contract) => Ok(Some(contract_line(
-            rt.alloc(),
-            sheets.model(),
-            contract,
-        )?)),
-        Request::Unreadable => Err(Failure::NoLine),
-    }
-}
-
 // Why there is no next line. A line that is no text is one that the program does not know.
 fn failed_input(error: io::Error) -> Failure {
     match error.kind() {
@@ -84,34 +60,62 @@ fn failed_input(error: io::Error) -> Failure {
     }
 }
 
-// Answers a line of the input.
-fn respond(
-    rt: &HostRuntime,
-    sheets: &mut SheetSet,
-    line: io::Result<String>,
-) -> Result<(), Failure> {
-    let text = line.map_err(failed_input)?;
-    if let Some(answer) = answer_to(rt, sheets, text.as_str())? {
-        rt.println(answer)?;
-    }
-    Ok(())
+/// The console: what it runs on, and the sheets that it has read.
+#[derive(Drop)]
+struct Console<'a> {
+    rt: &'a HostRuntime,
+    sheets: SheetSet,
 }
 
-// Tells why a line has no answer, unless nothing can be told any more.
-fn report(rt: &HostRuntime, failure: Failure) -> io::Result<()> {
-    match failure {
-        Failure::Broken(error) => Err(error),
-        unreadable => rt.println(unreadable),
+impl Console<'_> {
+    // The answer to a line that names a file.
+    fn answer_sheet(&mut self, path: &str) -> Result<String, Failure> {
+        let file = read_file(self.rt, path).map_err(|_| Failure::NoFile)?;
+        Ok(add_sheet(self.rt.alloc(), &mut self.sheets, file.as_slice())?)
+    }
+
+    // The answer to a line, `None` to one that asks nothing.
+    fn answer_to(&mut self, line: &str) -> Result<Option<String>, Failure> {
+        match request_of(line) {
+            Request::Nothing => Ok(None),
+            Request::Sheet(path) => Ok(Some(self.answer_sheet(path)?)),
+            Request::Contract(contract) => Ok(Some(contract_line(
+                self.rt.alloc(),
+                self.sheets.model(),
+                contract,
+            )?)),
+            Request::Unreadable => Err(Failure::NoLine),
+        }
+    }
+
+    // Answers a line of the input.
+    fn respond(&mut self, line: io::Result<String>) -> Result<(), Failure> {
+        let text = line.map_err(failed_input)?;
+        if let Some(answer) = self.answer_to(text.as_str())? {
+            self.rt.println(answer)?;
+        }
+        Ok(())
+    }
+
+    // Tells why a line has no answer, unless nothing can be told any more.
+    fn report(&self, failure: Failure) -> io::Result<()> {
+        match failure {
+            Failure::Broken(error) => Err(error),
+            unreadable => self.rt.println(unreadable),
+        }
     }
 }
 
 /// Answers every line. If one was unreadable the program ends with status 1.
 fn main(rt: HostRuntime) -> io::Result<()> {
-    let mut sheets = SheetSet::new();
+    let mut console = Console {
+        rt: &rt,
+        sheets: SheetSet::new(),
+    };
     let mut outcome = Ok(());
     for line in BufReader::new(rt.alloc(), rt.stdin())?.lines(rt.alloc()) {
-        if let Err(failure) = respond(&rt, &mut sheets, line) {
-            report(&rt, failure)?;
+        if let Err(failure) = console.respond(line) {
+            console.report(failure)?;
             outcome = Err(io::Error::from(io::ErrorKind::InvalidInput));
         }
     }

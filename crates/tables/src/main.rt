@@ -49,88 +49,93 @@ impl From<Untaken> for Fault {
     }
 }
 
-// Prints a figure beside what it should be.
-fn compare(
-    rt: &HostRuntime,
-    question: &str,
-    figure: Figure,
-    expected: Figure,
-) -> Result<(), Fault> {
-    println!(rt; "{question}: worked out {figure}, should be {expected}")?;
-    if figure == expected {
-        Ok(())
-    } else {
-        Err(Fault::Different)
-    }
+/// The program: what it runs on, and what it works figures out from.
+#[derive(Drop)]
+struct Tables<'a> {
+    rt: &'a HostRuntime,
+    example: Example,
 }
 
-// Answers a row that asks for a figure.
-fn answer(
-    rt: &HostRuntime,
-    example: &Example,
-    question: &str,
-    expected: &str,
-) -> Result<(), Fault> {
-    let (word, rest) = next_word(question).ok_or(Fault::Faulty)?;
-    let numbers = all_signed(rt.alloc(), rest)?.ok_or(Fault::Faulty)?;
-    let figure = example
-        .figure(word, numbers.as_slice())
-        .ok_or(Fault::Faulty)?;
-    let expected = figure_in(expected).ok_or(Fault::Faulty)?;
-    compare(rt, question.trim(), figure, expected)
-}
-
-// Takes over the sheet at a path.
-fn read_sheet(rt: &HostRuntime, example: &mut Example, path: &str) -> Result<(), Fault> {
-    let file = fs::read(rt, path).map_err(|_| Fault::Faulty)?;
-    example.read(file.as_slice()).map_err(|_| Fault::Faulty)
-}
-
-// Takes over what a word says with the words that follow it.
-fn prepare(rt: &HostRuntime, example: &mut Example, word: &str, rest: &str) -> Result<(), Fault> {
-    if word == "sheet"
-        && let Some(path) = only_word(rest)
-    {
-        return read_sheet(rt, example, path);
+impl Tables<'_> {
+    // Prints a figure beside what it should be.
+    fn compare(&self, question: &str, figure: Figure, expected: Figure) -> Result<(), Fault> {
+        println!(self.rt; "{question}: worked out {figure}, should be {expected}")?;
+        if figure == expected {
+            Ok(())
+        } else {
+            Err(Fault::Different)
+        }
     }
-    let numbers = all_signed(rt.alloc(), rest)?.ok_or(Fault::Faulty)?;
-    Ok(example.take(word, numbers.as_slice())?)
-}
 
-// Answers a row. One that is blank, or that begins with `#`, is passed over.
-fn respond(rt: &HostRuntime, example: &mut Example, row: &str) -> Result<(), Fault> {
-    let Some((word, rest)) = next_word(row) else {
-        return Ok(());
-    };
-    if row.starts_with('#') {
-        return Ok(());
+    // Answers a row that asks for a figure.
+    fn answer(&self, question: &str, expected: &str) -> Result<(), Fault> {
+        let (word, rest) = next_word(question).ok_or(Fault::Faulty)?;
+        let numbers = all_signed(self.rt.alloc(), rest)?.ok_or(Fault::Faulty)?;
+        let figure = self
+            .example
+            .figure(word, numbers.as_slice())
+            .ok_or(Fault::Faulty)?;
+        let expected = figure_in(expected).ok_or(Fault::Faulty)?;
+        self.compare(question.trim(), figure, expected)
     }
-    if word == "table" {
-        return Ok(rt.println(rest.trim())?);
-    }
-    match row.split_once('=') {
-        Some((question, expected)) => answer(rt, example, question, expected),
-        None => prepare(rt, example, word, rest),
-    }
-}
 
-// Tells what is wrong with a row, unless its figures stand beside each other already or nothing can be told any more.
-fn report(rt: &HostRuntime, row: &str, fault: Fault) -> io::Result<()> {
-    match fault {
-        Fault::Different => Ok(()),
-        Fault::Faulty => println!(rt; "cannot be worked out: {row}"),
-        Fault::Broken(error) => Err(error),
+    // Takes over the sheet at a path.
+    fn read_sheet(&mut self, path: &str) -> Result<(), Fault> {
+        let file = fs::read(self.rt, path).map_err(|_| Fault::Faulty)?;
+        self.example
+            .read(file.as_slice())
+            .map_err(|_| Fault::Faulty)
+    }
+
+    // Takes over what a word says with the words that follow it.
+    fn prepare(&mut self, word: &str, rest: &str) -> Result<(), Fault> {
+        if word == "sheet"
+            && let Some(path) = only_word(rest)
+        {
+            return self.read_sheet(path);
+        }
+        let numbers = all_signed(self.rt.alloc(), rest)?.ok_or(Fault::Faulty)?;
+        Ok(self.example.take(word, numbers.as_slice())?)
+    }
+
+    // Answers a row. One that is blank, or that begins with `#`, is passed over.
+    fn respond(&mut self, row: &str) -> Result<(), Fault> {
+        let Some((word, rest)) = next_word(row) else {
+            return Ok(());
+        };
+        if row.starts_with('#') {
+            return Ok(());
+        }
+        if word == "table" {
+            return Ok(self.rt.println(rest.trim())?);
+        }
+        match row.split_once('=') {
+            Some((question, expected)) => self.answer(question, expected),
+            None => self.prepare(word, rest),
+        }
+    }
+
+    // Tells what is wrong with a row, unless its figures stand beside each other already or nothing can be told any more.
+    fn report(&self, row: &str, fault: Fault) -> io::Result<()> {
+        match fault {
+            Fault::Different => Ok(()),
+            Fault::Faulty => println!(self.rt; "cannot be worked out: {row}"),
+            Fault::Broken(error) => Err(error),
+        }
     }
 }
 
 /// Answers every row. Unless all is well with each, the program ends with status 1.
 fn main(rt: HostRuntime) -> io::Result<()> {
     let rows = io::read_to_string(rt.alloc(), rt.stdin())?;
-    let mut example = Example::new(rt.alloc());
+    let mut tables = Tables {
+        rt: &rt,
+        example: Example::new(rt.alloc()),
+    };
     let mut outcome = Ok(());
     for row in rows.lines() {
-        if let Err(fault) = respond(&rt, &mut example, row) {
-            report(&rt, row, fault)?;
+        if let Err(fault) = tables.respond(row) {
+            tables.report(row, fault)?;
             outcome = Err(io::Error::from(io::ErrorKind::InvalidData));
         }
     }
