@@ -21,20 +21,14 @@ fn contract_after(sum: i64, turn: u32) -> u8 {
 
 // A million shocks, added up.
 fn total<M: ScenarioModel>(model: &M) -> i64 {
-    let mut sum = 0i64;
-    for turn in 0..SHOCKS {
-        sum = sum.wrapping_add(model.shock(contract_after(sum, turn), (turn & 63) as u8));
-    }
-    sum
+    (0..SHOCKS).fold(0i64, |sum, turn| {
+        sum.wrapping_add(model.shock(contract_after(sum, turn), (turn & 63) as u8))
+    })
 }
 
 // Whether each of the fills was accepted.
 fn fills(sheet: &mut Sheet, file: &[u8]) -> bool {
-    let mut accepted = true;
-    for _ in 0..FILLS {
-        accepted = accepted && sheet.fill(file).is_ok();
-    }
-    accepted
+    (0..FILLS).all(|_| sheet.fill(file).is_ok())
 }
 
 fn timed(rt: &HostRuntime, path: &str) -> io::Result<()> {
