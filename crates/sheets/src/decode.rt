@@ -113,12 +113,6 @@ impl Accepted<'_> {
     }
 }
 
-fn product(a: i32, b: i32) -> i64
-    ensures { result ≡ a *ℤ b }
-{
-    i64::from(a) * i64::from(b)
-}
-
 impl FactorCell<'_> {
     // One exposure times its factor's shock.
     fn part(&self, f: u16) -> i64
@@ -126,10 +120,8 @@ impl FactorCell<'_> {
         ensures value { result ≡ exposure self.now.file.now self.now.j f *ℤ factor_shock self.now.file.now self.now.s f }
         ensures bound { unsigned_abs result ≤ 125000000000 }
     {
-        product(
-            exposure_at(self.file, self.j, f),
-            factor_shock_at(self.file, self.s, f),
-        )
+        i64::from(exposure_at(self.file, self.j, f))
+            * i64::from(factor_shock_at(self.file, self.s, f))
     }
 
     fn total(&self) -> i64
