@@ -80,13 +80,9 @@ impl<M: ScenarioModel> Preparation<M> {
         ensures ledger { open_ledger result ≡ entered (M.ScenarioModel.table self.model) (prepared self) opening }
         ensures model { result.model ≡ self.model }
     {
-        let Preparation { model, book } = self;
+        let Preparation { model, mut book } = self;
         let needs = needs_of(&model, &book);
-        let mut opened = book;
-        enter_needs(&mut opened, &needs);
-        Session {
-            model,
-            book: opened,
-        }
+        enter_needs(&mut book, &needs);
+        Session { model, book }
     }
 }
