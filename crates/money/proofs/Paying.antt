@@ -1,9 +1,9 @@
 -- Money that comes in and goes out. Assumes nothing.
-use Rattle.std.proofs.Common.{◌≡◌, ℕ, ◌+◌, ◌<◌, ◌≤◌, Bool, true, false, cond, not, ◌||◌, ltb, List, [], ◌∷◌, ◌++◌, map, length, get_or, take, drop, ℤ, pos, ◌+ℤ◌, neg_ℤ, ◌≤ℤ◌, Some, None, Option, MatchOption, sym, refl, ap, ◌∙◌, subst, arith}
+use Rattle.std.proofs.Common.{◌≡◌, ℕ, ◌+◌, Bool, true, false, cond, not, ◌||◌, ltb, List, [], ◌∷◌, ◌++◌, map, length, get_or, take, drop, ℤ, pos, ◌+ℤ◌, neg_ℤ, ◌≤ℤ◌, Some, None, Option, MatchOption, sym, refl, ap, ◌∙◌, subst, arith}
 use lib.Signed.{lt_z}
-use Rattle.std.proofs.lemmas.List.{get_or_past, length-map, map_push}
+use Rattle.std.proofs.lemmas.List.{get_or_past, map_push}
 use Rattle.std.proofs.lemmas.Int.{ints}
-use Rattle.std.proofs.lemmas.Bool.{ltb-false, lt-ltb, le-ltb, or_from, or_left, or_right, not-true, not-false, and_parts, and_from}
+use Rattle.std.proofs.lemmas.Bool.{ltb-false, not-true, not-false, and_parts, and_from}
 use Rattle.figures.specs.Markets.{figure_if}
 use Rattle.scenario.specs.Table.{ScenarioTable}
 use Rattle.rules.specs.Bounds.{most_amount, most_standing, most_slips}
@@ -89,31 +89,6 @@ deposit_free m l h a x y z = skip _ 10 _ _ x (skip _ 12 _ _ (ap not y) (skip _ 1
 
 pub deposit_over : (m : ScenarioTable) (l : Ledger) (h : Holder) (a : ℤ) → no_such_holder l h ≡ false → is_amount a ≡ true → lt_z (pos most_amount) (collateral_of l h +ℤ slips_of l h +ℤ a) ≡ true → cause m l (deposit h a) ≡ Some 18
 deposit_over m l h a x y z = skip _ 10 _ _ x (skip _ 12 _ _ (ap not y) (hit _ 18 _ z))
-
--- ---- the rows of a withdrawal
-
-pub full_of_slips : (xs : List Stub) (n k : ℕ) → n ≡ length xs → most_standing ≤ n → (not (ltb (length (map slip_in xs)) most_standing) || not (ltb k most_slips)) ≡ true
-full_of_slips xs n k e h = or_left _ _ (ap not (le-ltb (length (map slip_in xs)) most_standing (omega (arith, length-map xs slip_in))))
-
-pub all_slips_made : (xs : List Stub) (k : ℕ) → most_slips ≤ k → (not (ltb (length (map slip_in xs)) most_standing) || not (ltb k most_slips)) ≡ true
-all_slips_made xs k h = or_right _ _ (ap not (le-ltb k most_slips h))
-
-pub room_for_a_slip : (xs : List Stub) (n k : ℕ) → n ≡ length xs → n < most_standing → k < most_slips → (not (ltb (length (map slip_in xs)) most_standing) || not (ltb k most_slips)) ≡ false
-room_for_a_slip xs n k e h i = or_from _ _ (ap not (lt-ltb (length (map slip_in xs)) most_standing (omega (arith, length-map xs slip_in)))) (ap not (lt-ltb k most_slips i))
-
-module _ (l : Ledger) (h : Holder) (a : ℤ) (known : no_such_holder l h ≡ false) where
-  pub no_slip_left : (not (ltb (length l.slips) most_standing) || not (ltb l.made most_slips)) ≡ true → Some 11 ≡ pay_cause l h a
-  no_slip_left e = sym (skip _ 10 _ _ known (hit _ 11 _ e))
-
-  module _ (room : (not (ltb (length l.slips) most_standing) || not (ltb l.made most_slips)) ≡ false) where
-    pub no_amount : is_amount a ≡ false → Some 12 ≡ pay_cause l h a
-    no_amount e = sym (skip _ 10 _ _ known (skip _ 11 _ _ room (hit _ 12 _ (ap not e))))
-
-    pub not_enough : is_amount a ≡ true → lt_z (collateral_of l h) a ≡ true → Some 19 ≡ pay_cause l h a
-    not_enough e f = sym (skip _ 10 _ _ known (skip _ 11 _ _ room (skip _ 12 _ _ (ap not e) (hit _ 19 _ f))))
-
-    pub pay_free : is_amount a ≡ true → lt_z (collateral_of l h) a ≡ false → None ≡ pay_cause l h a
-    pay_free e f = sym (skip _ 10 _ _ known (skip _ 11 _ _ room (skip _ 12 _ _ (ap not e) (skip _ 19 _ _ f refl))))
 
 -- what a free withdrawal tells
 pub record FreeToPay (l : Ledger) (h : Holder) (a : ℤ) : Type 0 where

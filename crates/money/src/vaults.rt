@@ -82,6 +82,7 @@ pub fn settle(book: &mut Book, stub: Stub) -> Result<(), Refusal>
 }
 
 // What a holder has when the amount of a standing slip is given back to it.
+// Kept with a place that is never reached: that a standing slip leaves room for its amount is a fact of the whole book, which no type of a fund or a slip can say.
 fn restored(book: &Book, stub: Stub) -> Fund
     requires { is_standing (slip_in stub) (ledger_in book.now).slips ≡ true }
     ensures { result.amount ≡ collateral_of (ledger_in book.now) (holder_of stub.holder) +ℤ stub.amount.amount }

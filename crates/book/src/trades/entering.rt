@@ -28,6 +28,7 @@ impl TradeTable {
     pub fn new() -> TradeTable
         ensures { cells_in result ≡ [] }
     {
+        // Kept as a repeated cell, where the other tables begin with a default: the cells of trades begin as empty ones.
         TradeTable {
             rows: Rows::of([TradeCell::Empty; MOST_TRADES]),
         }

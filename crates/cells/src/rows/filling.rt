@@ -1,5 +1,5 @@
 //! What is done with rows.
-ghost use Rattle.std.specs.Prelude.{◌≡◌, ◌+◌, ◌-◌, ◌<◌, ◌≤◌, [], ◌∷◌, ◌++◌, length, take, drop, Ok, Err, MatchOption, slice_index_or, slice_set};
+ghost use Rattle.std.specs.Prelude.{◌≡◌, ◌+◌, ◌-◌, ◌<◌, ◌≤◌, [], ◌∷◌, ◌++◌, length, take, drop, Ok, Err, MatchOption, slice_index_or};
 ghost use Rattle.std.specs.Borrow.{sem, follows, follows_if};
 ghost use Rattle.std.specs.Option.{ghost_name_of as name_of};
 ghost use Rattle.cells.specs.Listed.{listed};
@@ -86,15 +86,6 @@ impl<T: Copy, const N: usize> Rows<T, N> {
         self.cells.at[self.used] = x;
         self.used += 1;
         Ok(())
-    }
-
-    /// Another row at a place. Nothing changes past the last.
-    pub fn set(&mut self, i: usize, x: T)
-        ensures { listed self.new ≡ slice_set (listed self.old) i x }
-    {
-        if let Some(row) = self.get_mut(i) {
-            *row = x;
-        }
     }
 
     /// Takes the row at a place away: those behind it move up. Nothing changes past the last.

@@ -55,10 +55,7 @@ impl<M: ScenarioModel> Session<M> {
         ensures back { ComesBack result slip }
     {
         let Slip { stub } = slip;
-        match settle(&mut self.book, stub) {
-            Ok(()) => Ok(()),
-            Err(refusal) => Err((refusal, Slip { stub })),
-        }
+        settle(&mut self.book, stub).map_err(|refusal| (refusal, Slip { stub }))
     }
 
     /// Puts a slip back: its amount returns to its holder. Where none like it stands, it comes back.
@@ -67,10 +64,7 @@ impl<M: ScenarioModel> Session<M> {
         ensures back { ComesBack result slip }
     {
         let Slip { stub } = slip;
-        match put_back(&mut self.book, stub) {
-            Ok(()) => Ok(()),
-            Err(refusal) => Err((refusal, Slip { stub })),
-        }
+        put_back(&mut self.book, stub).map_err(|refusal| (refusal, Slip { stub }))
     }
 
     /// The market price of a contract.

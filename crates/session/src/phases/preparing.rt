@@ -80,17 +80,13 @@ impl<M: ScenarioModel> Preparation<M> {
         ensures ledger { open_ledger result ≡ entered (M.ScenarioModel.table self.model) (prepared self) opening }
         ensures model { result.model ≡ self.model }
     {
-        let Preparation { model, book } = self;
+        let Preparation { model, mut book } = self;
         let day = Day {
             model: &model,
             book: &book,
         };
         let needs = day.needs();
-        let mut opened = book;
-        enter_needs(&mut opened, &needs);
-        Session {
-            model,
-            book: opened,
-        }
+        enter_needs(&mut book, &needs);
+        Session { model, book }
     }
 }
