@@ -60,6 +60,7 @@ fn heading(heap: Global, contract: u8, place: u8, multiplier: u16) -> Result<Str
 }
 
 // Adds the shocks of a contract in the first `count` scenarios to a line, each after a space.
+#[tactic(auto, unfolding(crate::specs::Texts::shocks_text))]
 fn add_shocks<M: ScenarioModel>(
     line: &mut String,
     model: &M,
