@@ -39,7 +39,7 @@ fn is_short<M: ScenarioModel>(model: &M, book: &Book, stub: Stub) -> bool
     };
     match (book.client(client), (Day { model, book }).need_of(client)) {
         (Some(row), Some(need)) => leaves_less(row, need, stub.amount),
-        _ => false,
+        _ => true,
     }
 }
 
@@ -49,8 +49,7 @@ fn trader_of(book: &Book, holder: Holder) -> Option<u8>
 {
     match holder {
         Holder::Client(client) => book.client(client).map(|row| row.trader),
-        Holder::Trader(trader) => u8::try_from(trader).ok(),
-        Holder::Member(trader) => u8::try_from(trader).ok(),
+        Holder::Trader(trader) | Holder::Member(trader) => u8::try_from(trader).ok(),
     }
 }
 
@@ -59,7 +58,7 @@ fn is_uncovered<M: ScenarioModel>(model: &M, book: &Book, tried: &Book, stub: St
     ensures { no_such_holder (ledger_in book.now) (holder_of stub.holder) ≡ false → result ≡ (short (M.ScenarioModel.table model.now) (ledger_in book.now) (holder_of stub.holder) stub.amount.amount || int_lt (limit (M.ScenarioModel.table model.now) (ledger_in tried.now) (holders_trader (ledger_in book.now) (holder_of stub.holder))) (pos 0)) }
 {
     let Some(trader) = trader_of(book, stub.holder) else {
-        return false;
+        return true;
     };
     let then = Day { model, book: tried };
     is_short(model, book, stub) || then.limit_of(trader) < 0
