@@ -1,8 +1,9 @@
 -- What every book keeps, by the types of its rows. Assumes nothing.
 use Rattle.std.proofs.Common.{◌≡◌, ℕ, zero, suc, ◌≤◌, List, [], ◌∷◌, map, length, get_or, ℤ, pos, ◌+ℤ◌, nat_abs, ◌≤ℤ◌, None, sym, subst, arith}
-use Rattle.std.proofs.lemmas.List.{length-map, length-take}
+use Rattle.std.proofs.lemmas.List.{length-map}
 use Rattle.std.proofs.lemmas.Int.{ints}
 use Rattle.cells.specs.Listed.{listed}
+use Rattle.cells.proofs.Rowed.{length_listed}
 use Rattle.figures.specs.declared.position.Position.{Position}
 use Rattle.scenario.specs.Table.{ScenarioTable}
 use Rattle.rules.specs.Bounds.{most_amount, most_quantity}
@@ -18,7 +19,6 @@ use Rattle.book.specs.declared.trades.standing.TradeCell.TheVariants.{Empty, Uns
 use Rattle.book.specs.Means.{trader_in, client_in, slip_in, trade_in}
 use Rattle.book.specs.Ledgers.{ledger_in}
 use Rattle.book.specs.Tabled.{cells_in}
-use Rattle.book.proofs.Fills.{length_cells}
 
 all_mapped : {X Y : Type 0} (P : Y → Type 0) (f : X → Y) (d : Y) → ((x : X) → P (f x)) → P d → (xs : List X) (j : ℕ) → P (get_or (map f xs) j d)
 all_mapped P f d h e [] j = e
@@ -64,7 +64,7 @@ near p = go p.quantity p.few
 pub bounded_in : (b : Book) → BoundsKept (ledger_in b)
 bounded_in b =
     record {
-      few = omega (arith, length-map (cells_in b.trades) trade_in, length_cells b.trades, b.trades.within);
+      few = omega (arith, length-map (cells_in b.trades) trade_in, length_listed b.trades.rows, b.trades.rows.within);
       small = all_mapped Small trade_in no_trade small ((omega (arith, ints), omega (arith, ints)), omega arith) (cells_in b.trades);
       cheap = b.prices.low;
     }
@@ -77,7 +77,7 @@ bounded_in b =
 
 -- numbers of traders and clients are small
 pub few_clients : (b : Book) → length (ledger_in b).clients ≤ 128
-few_clients b = omega (arith, length-map (listed b.clients) client_in, length-take b.clients.used b.clients.at, b.clients.within)
+few_clients b = omega (arith, length-map (listed b.clients) client_in, length_listed b.clients, b.clients.within)
 
 pub few_traders : (b : Book) → length (ledger_in b).traders ≤ 16
-few_traders b = omega (arith, length-map (listed b.traders) trader_in, length-take b.traders.used b.traders.at, b.traders.within)
+few_traders b = omega (arith, length-map (listed b.traders) trader_in, length_listed b.traders, b.traders.within)

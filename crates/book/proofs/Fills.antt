@@ -1,15 +1,12 @@
 -- Cells that hold a trade. Assumes nothing.
 use Rattle.std.proofs.Common.{◌≡◌, ℕ, zero, suc, ◌<◌, true, List, [], ◌∷◌, ◌++◌, length, get_or, set, refl, arith}
-use Rattle.std.proofs.lemmas.List.{length-take-le, get_or-take}
 use Rattle.std.proofs.lemmas.Bool.{and_parts, and_from}
 use Rattle.book.specs.declared.trades.standing.TradeCell.{TradeCell}
 use Rattle.book.specs.declared.trades.standing.TradeCell.TheVariants.{Empty, Unspecified, Specified, Carried}
 use Rattle.book.specs.declared.trades.standing.Change.{Change}
 use Rattle.book.specs.declared.trades.standing.Change.TheVariants.{Specify, Cancel}
-use Rattle.book.specs.declared.trades.TradeTable.{TradeTable}
 use Rattle.book.specs.Filled.{is_filled, each_filled}
 use Rattle.book.specs.Standings.{cell_after}
-use Rattle.book.specs.Tabled.{cells_in}
 
 pub filled_push : (xs : List TradeCell) (x : TradeCell) → each_filled xs ≡ true → is_filled x ≡ true → each_filled (xs ++ x ∷ []) ≡ true
 filled_push [] x h e = and_from (is_filled x) true e refl
@@ -32,9 +29,3 @@ filled_after (Unspecified t) Cancel e = refl
 filled_after (Specified t d) (Specify c) e = refl
 filled_after (Specified t d) Cancel e = refl
 filled_after (Carried t d) c e = refl
-
-pub length_cells : (t : TradeTable) → length (cells_in t) ≡ t.used
-length_cells t = length-take-le t.used t.cells.at (omega (arith, t.within, t.long))
-
-pub cell_at : (t : TradeTable) (i : ℕ) (d : TradeCell) → i < t.used → get_or (cells_in t) i d ≡ get_or t.cells.at i d
-cell_at t i d h = get_or-take t.used t.cells.at i d h

@@ -1,5 +1,5 @@
 -- Which cells hold a trade. Assumes nothing.
-use Rattle.std.specs.Prelude.{ℕ, Bool, true, false, ◌&&◌, List, [], ◌∷◌, take}
+use Rattle.std.specs.Prelude.{Bool, true, false, ◌&&◌, List, [], ◌∷◌}
 use Rattle.book.specs.declared.trades.standing.TradeCell.{TradeCell}
 use Rattle.book.specs.declared.trades.standing.TradeCell.TheVariants.{Empty, Unspecified, Specified, Carried}
 
@@ -12,7 +12,3 @@ is_filled (Carried t c) = true
 abbrev pub each_filled : List TradeCell → Bool
 each_filled [] = true
 each_filled (x ∷ xs) = is_filled x && each_filled xs
-
--- the first n of some cells
-abbrev pub all_filled : ℕ → List TradeCell → Bool
-all_filled n xs = each_filled (take n xs)

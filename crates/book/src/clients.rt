@@ -3,7 +3,7 @@ use crate::funds::Fund;
 use figures::cash::Cash;
 
 /// What stands of a client.
-#[derive(Clone, Copy)]
+#[derive(Clone, Copy, Debug, Default, PartialEq, Eq)]
 pub struct Client {
     /// Its trader's number.
     pub trader: u8,

@@ -4,7 +4,7 @@ ghost use Rattle.std.specs.Prelude.{pos, ◌≤ℤ◌};
 pub mod counting;
 
 /// An amount of 0 to 10^15 centavos.
-#[derive(Clone, Copy)]
+#[derive(Clone, Copy, Debug, PartialEq, Eq)]
 pub struct Fund {
     /// In centavos.
     pub amount: i64,

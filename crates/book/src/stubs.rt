@@ -3,7 +3,7 @@ use crate::funds::Fund;
 use orders::Holder;
 
 /// What a slip says: its serial, the holder whose collateral was handed out, and how much.
-#[derive(Clone, Copy)]
+#[derive(Clone, Copy, Debug, PartialEq, Eq)]
 pub struct Stub {
     /// Serials rise by one from 1.
     pub serial: u32,
@@ -11,4 +11,20 @@ pub struct Stub {
     pub holder: Holder,
     /// How much was handed out.
     pub amount: Fund,
+}
+
+impl Default for Stub {
+    ghost use Rattle.std.specs.Prelude.{◌≡◌};
+    ghost use Rattle.rules.specs.Ledger.{no_slip};
+    ghost use Rattle.book.specs.Means.{slip_in};
+
+    ghost is_default = { λ x. slip_in x ≡ no_slip };
+
+    fn default() -> Stub {
+        Stub {
+            serial: 0,
+            holder: Holder::Client(0),
+            amount: Fund::none(),
+        }
+    }
 }

@@ -2,7 +2,7 @@
 use crate::funds::Fund;
 
 /// What stands of a trader.
-#[derive(Clone, Copy)]
+#[derive(Clone, Copy, Debug, Default, PartialEq, Eq)]
 pub struct Trader {
     /// The intraday limit.
     pub intraday: Fund,

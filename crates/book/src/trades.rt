@@ -1,9 +1,10 @@
 //! Trades, and the table of their cells.
-ghost use Rattle.std.specs.Prelude.{◌≡◌, ◌≤◌, true, length};
-ghost use Rattle.book.specs.Filled.{all_filled};
+ghost use Rattle.std.specs.Prelude.{◌≡◌, true};
+ghost use Rattle.cells.specs.Listed.{listed};
+ghost use Rattle.book.specs.Filled.{each_filled};
 
 use crate::trades::standing::TradeCell;
-use cells::Cells;
+use cells::rows::Rows;
 
 pub mod entering;
 pub mod standing;
@@ -11,9 +12,6 @@ pub mod standing;
 /// The trades of a day, in 1,024 cells that are filled from the front.
 #[derive(Clone, Copy)]
 pub struct TradeTable {
-    pub(crate) cells: Cells<TradeCell, 1024>,
-    pub(crate) used: usize,
-    ghost within: { used ≤ 1024 },
-    ghost long: { length cells.at ≡ 1024 },
-    ghost filled: { all_filled used cells.at ≡ true },
+    pub(crate) rows: Rows<TradeCell, 1024>,
+    ghost filled: { each_filled (listed rows) ≡ true },
 }

@@ -1,2 +1,1 @@
-mod Shifts
-mod Rowed
+pub mod Rowed

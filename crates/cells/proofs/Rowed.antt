@@ -1,23 +1,31 @@
 -- Rows at the front of a longer list. Assumes nothing.
-use Rattle.std.proofs.Common.{◌≡◌, ℕ, ◌+◌, ◌<◌, ◌≤◌, List, ◌++◌, length, get_or, take, drop, set, sym, ap, ◌∙◌, arith}
+use Rattle.std.proofs.Common.{◌≡◌, ℕ, ◌+◌, ◌-◌, ◌<◌, ◌≤◌, List, ◌++◌, length, take, drop, set, sym, ap, ◌∙◌, arith, inl, inr, length-drop}
 use lib.Seq.{take-set-lt}
-use Rattle.std.proofs.lemmas.List.{length-take-le, get_or-take, get_or_default, set_past, take_all, drop_all, append-nil}
+use Rattle.std.specs.List.{copy_within}
+use Rattle.std.proofs.lemmas.List.{length-take-le, set_past, take-set-le, take-take, drop-take}
+use Rattle.std.proofs.lemmas.Bool.{cases_lt}
+use Rattle.std.proofs.lemmas.List.Edits.{take-paste}
+use Rattle.cells.specs.declared.rows.Rows.{Rows}
+use Rattle.cells.specs.Lent.{with_row}
+use Rattle.cells.specs.Listed.{listed}
 
-module _ {X : Type 0} (xs : List X) (n : ℕ) (h : n ≤ length xs) where
-  pub length_rows : length (take n xs) ≡ n
-  length_rows = length-take-le n xs h
+pub length_listed : {X : Type 0} {n : ℕ} (t : Rows X n) → length (listed t) ≡ t.used
+length_listed t = length-take-le t.used t.cells.at (omega (arith, t.within, t.long))
 
-  pub row_read : (i : ℕ) (x : X) → i < n → get_or xs i x ≡ get_or (take n xs) i (get_or xs i x)
-  row_read i x l = sym (get_or-take n xs i (get_or xs i x) l ∙ default_read xs i x (omega arith))
-    where
-      default_read : (ys : List X) (j : ℕ) (y : X) → j < length ys → get_or ys j (get_or ys j y) ≡ get_or ys j y
-      default_read ys j y k = get_or_default ys j (get_or ys j y) y k
+-- what a loan of one row leaves
+pub listed_lent : {X : Type 0} {n : ℕ} (t : Rows X n) (i : ℕ) (x : X) → listed (with_row t i x) ≡ set (listed t) i x
+listed_lent t i x = elim (cases_lt i t.used) [
+  | inl h ↦ take-set-lt t.used t.cells.at i x h
+  | inr h ↦ take-set-le t.used t.cells.at i x h ∙ sym (set_past (listed t) i x (omega (arith, length_listed t)))
+]
 
-  pub row_set : (i : ℕ) (y : X) → i < n → take n (set xs i y) ≡ set (take n xs) i y
-  row_set i y l = take-set-lt n xs i y l
-
-  pub row_past : (i : ℕ) (y : X) → n ≤ i → take n xs ≡ set (take n xs) i y
-  row_past i y l = sym (set_past (take n xs) i y (omega (arith, length_rows)))
-
-  pub none_removed : (i : ℕ) → n ≤ i → take n xs ≡ take i (take n xs) ++ drop (i + 1) (take n xs)
-  none_removed i l = sym (ap (λ (v : List X). v ++ drop (i + 1) (take n xs)) (take_all i (take n xs) (omega (arith, length_rows))) ∙ ap (λ (v : List X). take n xs ++ v) (drop_all (i + 1) (take n xs) (omega (arith, length_rows))) ∙ append-nil (take n xs))
+-- the rows behind one that goes move up
+pub moved_up : {X : Type 0} (xs : List X) (n i : ℕ) → i < n → n ≤ length xs → take (n - 1) (copy_within xs (i + 1) n i) ≡ take i (take n xs) ++ drop (i + 1) (take n xs)
+moved_up {X = X} xs n i h k =
+    let d = n - (i + 1) in
+    let m : n - 1 ≡ i + d = omega arith in
+    let e : n ≡ i + 1 + d = omega arith in
+    ap (λ (j : ℕ). take j (copy_within xs (i + 1) n i)) m
+    ∙ take-paste xs i (drop (i + 1) xs) d (omega arith) (omega (arith, length-drop (i + 1) xs))
+    ∙ ap (λ (v : List X). v ++ take d (drop (i + 1) xs)) (sym (take-take i n xs (omega arith)))
+    ∙ ap (λ (v : List X). take i (take n xs) ++ v) (sym (ap (λ (j : ℕ). drop (i + 1) (take j xs)) e ∙ drop-take (i + 1) d xs))

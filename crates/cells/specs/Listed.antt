@@ -3,4 +3,4 @@ use Rattle.std.specs.Prelude.{ℕ, List, take}
 use Rattle.cells.specs.declared.rows.Rows.{Rows}
 
 abbrev pub listed : {A : Type 0} {n : ℕ} → Rows A n → List A
-listed t = take t.used t.at
+listed t = take t.used t.cells.at

@@ -1,18 +1,21 @@
 //! Rows that are filled from the front.
 ghost use Rattle.std.specs.Prelude.{◌≡◌, ◌≤◌, length, ⊤};
 
+use crate::cells::Cells;
 use std::alloc::AllocError;
 
 pub mod filling;
 
 /// Up to `N` rows, in the order in which they came. The places behind them hold anything.
+// Kept beside the kit's `ArrayVec`: that is no `Copy`, and its clone can fail, while a session tries each release on a copy of the book.
 pub struct Rows<T, const N: usize> {
-    pub(crate) at: [T; N],
+    pub(crate) cells: Cells<T, N>,
     pub(crate) used: usize,
     ghost within: { used ≤ N },
-    ghost long: { length at ≡ N },
+    ghost long: { length cells.at ≡ N },
 }
 
+// Kept: no `Clone` can be derived for a struct with a type parameter and a ghost field.
 impl<T: Copy, const N: usize> Clone for Rows<T, N> {
     ghost is_clone = { λ x y. y ≡ x };
 

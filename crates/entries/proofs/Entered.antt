@@ -1,12 +1,12 @@
 -- A row more, and the table of a day that has no contract. Assumes nothing.
-use Rattle.std.proofs.Common.{◌≡◌, ℕ, ◌<◌, ◌≤◌, Bool, true, false, cond, not, ◌&&◌, ltb, List, [], ◌∷◌, ◌++◌, map, length, ℤ, pos, is_some, Some, None, Option, sym, refl, ap, ◌∙◌, arith}
+use Rattle.std.proofs.Common.{◌≡◌, ℕ, ◌<◌, Bool, true, false, not, ◌&&◌, ltb, List, [], ◌∷◌, ◌++◌, map, length, ℤ, pos, is_some, Some, None, Option, sym, refl, ap, ◌∙◌, arith}
 use Rattle.std.proofs.lemmas.List.{map_push, length-map}
-use Rattle.std.proofs.lemmas.Bool.{lt-ltb, le-ltb, false≢true}
+use Rattle.std.proofs.lemmas.Bool.{lt-ltb, false≢true}
 use Rattle.scenario.specs.Table.{ScenarioTable}
-use Rattle.rules.specs.Bounds.{most_traders, most_clients, most_amount, most_defaults}
+use Rattle.rules.specs.Bounds.{most_traders, most_amount, most_defaults}
 use Rattle.rules.specs.Ledger.{Ledger}
-use Rattle.rules.specs.Causes.{trader, client, cause, within, absent, no_such_trader}
-use Rattle.rules.proofs.Rows.{hit, skip}
+use Rattle.rules.specs.Causes.{trader, cause, within, absent}
+use Rattle.rules.proofs.Rows.{skip}
 use Rattle.entries.specs.Made.{made_if}
 
 -- a table that knows no contract: where a call does not ask the table, any will do
@@ -14,36 +14,21 @@ abbrev pub no_contracts : ScenarioTable
 no_contracts = record { subportfolios = 1; scenarios = λ k. 1; place = λ c. None; shock = λ c s. pos 0 }
 
 -- a row more, by what it means
-pub pushed : {X Y : Type 0} (f : X → Y) (xs ys : List X) (x : X) (y : Y) (t : Bool) → t ≡ true → ys ≡ cond t (xs ++ x ∷ []) xs → f x ≡ y → map f ys ≡ map f xs ++ y ∷ []
-pushed f xs ys x y true e h q = ap (map f) h ∙ map_push f xs x ∙ ap (λ v. map f xs ++ v ∷ []) q
-pushed f xs ys x y false e h q = absurd (false≢true e)
+pub pushed : {X Y : Type 0} (f : X → Y) (xs ys : List X) (x : X) (y : Y) → ys ≡ xs ++ x ∷ [] → f x ≡ y → map f ys ≡ map f xs ++ y ∷ []
+pushed f xs ys x y h q = ap (map f) h ∙ map_push f xs x ∙ ap (λ v. map f xs ++ v ∷ []) q
 
 -- whether a table is full, by the number of its rows
 pub not_full : {X Y : Type 0} (f : X → Y) (xs : List X) (n k : ℕ) → n ≡ length xs → n < k → not (ltb (length (map f xs)) k) ≡ false
 not_full f xs n k e h = ap not (lt-ltb _ _ (omega (arith, length-map xs f)))
 
-pub is_full : {X Y : Type 0} (f : X → Y) (xs : List X) (n k : ℕ) → n ≡ length xs → k ≤ n → not (ltb (length (map f xs)) k) ≡ true
-is_full f xs n k e h = ap not (le-ltb _ _ (omega (arith, length-map xs f)))
-
 -- how many rows there are, by what they mean
 pub counted : {X Y : Type 0} (f : X → Y) (xs : List X) (n : ℕ) → n ≡ length xs → n ≡ length (map f xs)
 counted f xs n e = e ∙ sym (length-map xs f)
-
--- whether a number is in use
-pub not_unknown : {X Y : Type 0} (f : X → Y) (xs : List X) (n i : ℕ) → n ≡ length xs → i < n → not (ltb i (length (map f xs))) ≡ false
-not_unknown f xs n i e h = ap not (lt-ltb _ _ (omega (arith, length-map xs f)))
-
-pub is_unknown : {X Y : Type 0} (f : X → Y) (xs : List X) (n i : ℕ) → n ≡ length xs → n ≤ i → not (ltb i (length (map f xs))) ≡ true
-is_unknown f xs n i e h = ap not (le-ltb _ _ (omega (arith, length-map xs f)))
 
 -- what is made where a test holds
 pub made_some : {A : Type 0} (b : Bool) (x y : A) → Some x ≡ made_if b y → (b ≡ true) × (x ≡ y)
 made_some true x y e = (refl, cc)
 made_some false x y e = let z : ◌≡◌ {A = ℕ} 0 1 = cc in absurd (omega arith)
-
-pub made_none : {A : Type 0} (b : Bool) (y : A) → None ≡ made_if b y → b ≡ false
-made_none true y e = let z : ◌≡◌ {A = ℕ} 0 1 = cc in absurd (omega arith)
-made_none false y e = refl
 
 -- whether there is a price
 pub unpriced : {A : Type 0} (o p : Option A) → o ≡ p → is_some o ≡ false → absent p ≡ true
@@ -63,17 +48,5 @@ priced {A} o p e h = go p (ap is_some (sym e) ∙ h)
 -- ---- a trader
 
 module _ (m : ScenarioTable) (l : Ledger) (a n : ℤ) (room : not (ltb (length l.traders) most_traders) ≡ false) where
-  pub trader_out_of_range : (within (pos 0) (pos most_amount) a && within (pos 1) (pos most_defaults) n) ≡ false → cause m l (trader a n) ≡ Some 12
-  trader_out_of_range e = skip _ 11 _ _ room (hit _ 12 _ (ap not e))
-
   pub trader_free : (within (pos 0) (pos most_amount) a && within (pos 1) (pos most_defaults) n) ≡ true → cause m l (trader a n) ≡ None
   trader_free e = skip _ 11 _ _ room (skip _ 12 _ _ (ap not e) refl)
-
--- ---- a client
-
-module _ (m : ScenarioTable) (l : Ledger) (t : ℕ) (known : no_such_trader l t ≡ false) where
-  pub client_table_full : not (ltb (length l.clients) most_clients) ≡ true → cause m l (client t) ≡ Some 11
-  client_table_full e = skip _ 10 _ _ known (hit _ 11 _ e)
-
-  pub client_free : not (ltb (length l.clients) most_clients) ≡ false → cause m l (client t) ≡ None
-  client_free e = skip _ 10 _ _ known (skip _ 11 _ _ e refl)

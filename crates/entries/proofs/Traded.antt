@@ -120,6 +120,3 @@ module _ (xs : List TradeCell) (i : ℕ) (h : i < length (map trade_in xs)) (x :
       let l = (cell_read xs i h).0 in
       let g = taken (get_or xs i Empty) d (ap (λ (t : Trade). t.standing) same_trade ∙ s) in
       ((k l).0 ∙ g.0, cell_changed xs ys i Cancel unspecified l g.1 (k l).1)
-
-pub refused_not : (r : Result (Unit {0}) Refusal) (e : Refusal) → r ≡ Err e → r ≡ Ok tt → ⊥
-refused_not r e p q = let z : ◌≡◌ {A = ℕ} 0 1 = cc in omega arith

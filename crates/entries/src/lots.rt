@@ -17,26 +17,16 @@ use orders::{Lot, Side};
 use refusals::Refusal;
 use rules::bounds::MOST_TRADES;
 
-// How many were bought, negative for a sale.
-fn signed_quantity(side: Side, quantity: u64) -> i32
-    requires { quantity ≤ 10000 }
-    ensures { result ≡ signed (side_of side) quantity }
-{
-    match side {
-        Side::Buy => quantity as i32,
-        Side::Sell => -(quantity as i32),
-    }
-}
-
 // What was traded of a known contract. `None` where the quantity or the price is outside its range.
 fn position_of_lot(contract: u8, lot: Lot) -> Option<Position>
     ensures { meant result ≡ made_if (is_lot lot.quantity lot.price) (lot_position contract lot) }
 {
-    if lot.quantity > MOST_QUANTITY as u64 || lot.price > MOST_PRICE as u64 {
-        return None;
-    }
-    let quantity = signed_quantity(lot.side, lot.quantity);
-    Position::new(contract, quantity, lot.price as u32)
+    let bought = i32::try_from(lot.quantity).ok()?;
+    let quantity = match lot.side {
+        Side::Buy => bought,
+        Side::Sell => -bought,
+    };
+    Position::new(contract, quantity, u32::try_from(lot.price).ok()?)
 }
 
 // What was traded of a known contract, or why it cannot be entered.
@@ -47,15 +37,14 @@ fn fair_position(book: &Book, contract: u8, lot: Lot) -> Result<Position, Refusa
     if book.trades.len() >= MOST_TRADES {
         return Err(Refusal::TableFull);
     }
-    let Some(position) = position_of_lot(contract, lot) else {
-        return Err(Refusal::OutOfRange);
-    };
+    let position = position_of_lot(contract, lot).ok_or(Refusal::OutOfRange)?;
     if book.prices.get(contract).is_none() {
         return Err(Refusal::NoPrice);
     }
     Ok(position)
 }
 
+// Kept with a contract beside a lot: the lot's own number is as wide as it was ordered, and the model says which it is.
 // Enters a lot of a known contract as a trade of a trader, carried for a client or with none yet.
 pub(crate) fn enter_lot(
     book: &mut Book,
@@ -68,6 +57,6 @@ pub(crate) fn enter_lot(
 {
     let position = fair_position(book, contract, lot)?;
     let number = book.trades.len();
-    book.trades.enter(Trade { trader, position }, client);
+    book.trades.enter(Trade { trader, position }, client)?;
     Ok(number as u64)
 }

@@ -13,25 +13,21 @@ use book::books::Book;
 use book::clients::Client;
 use book::funds::Fund;
 use book::traders::Trader;
-use figures::cash::Cash;
 use refusals::Refusal;
-use rules::bounds::{MOST_CLIENTS, MOST_DEFAULTS, MOST_TRADERS};
+use rules::bounds::{MOST_DEFAULTS, MOST_TRADERS};
 
 // A trader as it is entered. `None` where its intraday limit or its default count is outside its range.
 fn made_trader(intraday: i64, defaults: i64) -> Option<Trader>
     ensures { trader_made result ≡ made_if (within (pos 0) (pos most_amount) intraday && within (pos 1) (pos most_defaults) defaults) (new_trader intraday defaults) }
 {
-    let Some(granted) = Fund::new(intraday) else {
-        return None;
-    };
-    if defaults < 1 || defaults > MOST_DEFAULTS as i64 {
+    let granted = Fund::new(intraday)?;
+    if !(1..=MOST_DEFAULTS as i64).contains(&defaults) {
         return None;
     }
     Some(Trader {
         intraday: granted,
         defaults: defaults as u8,
-        own: Fund::none(),
-        favour: Fund::none(),
+        ..Trader::default()
     })
 }
 
@@ -43,10 +39,8 @@ pub fn enter_trader(book: &mut Book, intraday: i64, defaults: i64) -> Result<u64
     if number >= MOST_TRADERS {
         return Err(Refusal::TableFull);
     }
-    let Some(trader) = made_trader(intraday, defaults) else {
-        return Err(Refusal::OutOfRange);
-    };
-    book.traders.push(trader);
+    let trader = made_trader(intraday, defaults).ok_or(Refusal::OutOfRange)?;
+    book.traders.push(trader).or(Err(Refusal::TableFull))?;
     Ok(number as u64)
 }
 
@@ -54,19 +48,12 @@ pub fn enter_trader(book: &mut Book, intraday: i64, defaults: i64) -> Result<u64
 pub fn enter_client(book: &mut Book, trader: u64) -> Result<u64, Refusal>
     ensures { (m : ScenarioTable) → Answered m (ledger_in book.old) (clientCall trader) (answered numbered result) (ledger_in book.new) }
 {
-    let Some(owner) = known_trader(book, trader) else {
-        return Err(Refusal::Unknown);
-    };
+    let owner = known_trader(book, trader).ok_or(Refusal::Unknown)?;
     let number = book.clients.len();
-    if number >= MOST_CLIENTS {
-        return Err(Refusal::TableFull);
-    }
     let client = Client {
         trader: owner,
-        collateral: Fund::none(),
-        cash: Cash::none(),
-        opening_need: 0,
+        ..Client::default()
     };
-    book.clients.push(client);
+    book.clients.push(client).or(Err(Refusal::TableFull))?;
     Ok(number as u64)
 }

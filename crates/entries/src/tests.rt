@@ -1,6 +1,6 @@
 //! What is tested of a call before it is entered.
 ghost use Rattle.std.specs.Prelude.{◌≡◌, true, false, MatchOption};
-ghost use Rattle.rules.specs.Causes.{no_such_trader, no_such_client};
+ghost use Rattle.rules.specs.Causes.{no_such_trader};
 ghost use Rattle.book.specs.Ledgers.{ledger_in};
 
 use book::books::Book;
@@ -9,20 +9,6 @@ use book::books::Book;
 pub(crate) fn known_trader(book: &Book, trader: u64) -> Option<u8>
     ensures { MatchOption result (no_such_trader (ledger_in book.now) trader ≡ true) (λ x. (no_such_trader (ledger_in book.now) trader ≡ false) × (x ≡ trader)) }
 {
-    if trader < book.traders.len() as u64 {
-        Some(trader as u8)
-    } else {
-        None
-    }
-}
-
-// The number of a client as its rows keep it, `None` where it is unknown.
-pub(crate) fn known_client(book: &Book, client: u64) -> Option<u8>
-    ensures { MatchOption result (no_such_client (ledger_in book.now) client ≡ true) (λ x. (no_such_client (ledger_in book.now) client ≡ false) × (x ≡ client)) }
-{
-    if client < book.clients.len() as u64 {
-        Some(client as u8)
-    } else {
-        None
-    }
+    book.trader(trader)?;
+    Some(trader as u8)
 }

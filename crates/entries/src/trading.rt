@@ -9,7 +9,7 @@ ghost use Rattle.book.specs.Ledgers.{ledger_in};
 ghost use Rattle.entries.specs.Lots.{placed_in, Released};
 
 use crate::lots::enter_lot;
-use crate::tests::{known_client, known_trader};
+use crate::tests::known_trader;
 use book::books::Book;
 use book::trades::standing::{Change, TradeCell};
 use orders::Lot;
@@ -19,15 +19,11 @@ use refusals::Refusal;
 pub fn set_price(book: &mut Book, placed: Option<u8>, price: u64) -> Result<(), Refusal>
     ensures { (m : ScenarioTable) (k : ℕ) → placed ≡ placed_in m k → Answered m (ledger_in book.old) (priceCall k price) (answered (λ _. accepted) result) (ledger_in book.new) }
 {
-    let Some(contract) = placed else {
-        return Err(Refusal::Unknown);
-    };
-    let Ok(ticks) = u32::try_from(price) else {
-        return Err(Refusal::OutOfRange);
-    };
+    let contract = placed.ok_or(Refusal::Unknown)?;
+    let ticks = u32::try_from(price).or(Err(Refusal::OutOfRange))?;
     book.prices
         .set(contract, ticks)
-        .map_err(|_| Refusal::OutOfRange)
+        .or(Err(Refusal::OutOfRange))
 }
 
 /// Enters a trade of a trader, and answers its number. Its contract is `placed` where the model knows it.
@@ -39,12 +35,8 @@ pub fn enter_trade(
 ) -> Result<u64, Refusal>
     ensures { (m : ScenarioTable) → Lawful m → placed ≡ placed_in m lot.contract → Answered m (ledger_in book.old) (trade_of_lot trader lot) (answered numbered result) (ledger_in book.new) }
 {
-    let Some(contract) = placed else {
-        return Err(Refusal::Unknown);
-    };
-    let Some(owner) = known_trader(book, trader) else {
-        return Err(Refusal::Unknown);
-    };
+    let contract = placed.ok_or(Refusal::Unknown)?;
+    let owner = known_trader(book, trader).ok_or(Refusal::Unknown)?;
     enter_lot(book, contract, lot, owner, None)
 }
 
@@ -57,12 +49,8 @@ pub fn enter_carry(
 ) -> Result<u64, Refusal>
     ensures { (m : ScenarioTable) → Lawful m → placed ≡ placed_in m lot.contract → Answered m (ledger_in book.old) (carry_of_lot client lot) (answered numbered result) (ledger_in book.new) }
 {
-    let Some(contract) = placed else {
-        return Err(Refusal::Unknown);
-    };
-    let Some(row) = book.client(client) else {
-        return Err(Refusal::Unknown);
-    };
+    let contract = placed.ok_or(Refusal::Unknown)?;
+    let row = book.client(client).ok_or(Refusal::Unknown)?;
     enter_lot(book, contract, lot, row.trader, Some(client as u8))
 }
 
@@ -70,12 +58,8 @@ pub fn enter_carry(
 pub fn specify(book: &mut Book, trade: u64, client: u64) -> Result<(), Refusal>
     ensures { (m : ScenarioTable) → Answered m (ledger_in book.old) (specifyCall trade client) (answered (λ _. accepted) result) (ledger_in book.new) }
 {
-    let Some(cell) = book.cell(trade) else {
-        return Err(Refusal::Unknown);
-    };
-    let Some(row) = book.client(client) else {
-        return Err(Refusal::Unknown);
-    };
+    let cell = book.cell(trade).ok_or(Refusal::Unknown)?;
+    let row = book.client(client).ok_or(Refusal::Unknown)?;
     let TradeCell::Unspecified(found) = cell else {
         return Err(Refusal::WrongState);
     };
@@ -90,14 +74,10 @@ pub fn specify(book: &mut Book, trade: u64, client: u64) -> Result<(), Refusal>
 pub fn release(book: &mut Book, trade: u64) -> Result<u8, Refusal>
     ensures { Released (ledger_in book.old) trade result (ledger_in book.new) }
 {
-    let Some(cell) = book.cell(trade) else {
-        return Err(Refusal::Unknown);
-    };
+    let cell = book.cell(trade).ok_or(Refusal::Unknown)?;
     let TradeCell::Specified(found, _) = cell else {
         return Err(Refusal::WrongState);
     };
-    match book.trades.change(trade as usize, Change::Cancel) {
-        Ok(()) => Ok(found.trader),
-        Err(refusal) => Err(refusal),
-    }
+    book.trades.change(trade as usize, Change::Cancel)?;
+    Ok(found.trader)
 }

@@ -4,7 +4,7 @@ ghost use Rattle.std.specs.Prelude.{◌≤◌, unsigned_abs};
 pub mod setting;
 
 /// What a client receives of the day's settlement or, below 0, owes of it: within 10^13 centavos either way.
-#[derive(Clone, Copy)]
+#[derive(Clone, Copy, Debug, PartialEq, Eq)]
 pub struct Cash {
     /// In centavos.
     pub amount: i64,

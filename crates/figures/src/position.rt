@@ -4,7 +4,7 @@ ghost use Rattle.std.specs.Prelude.{◌≤◌, unsigned_abs};
 pub mod making;
 
 /// A contract, how many of it are held, and the price in ticks at which they were traded or, for a position from yesterday, settled then.
-#[derive(Clone, Copy)]
+#[derive(Clone, Copy, Debug, PartialEq, Eq)]
 pub struct Position {
     /// The contract's number.
     pub contract: u8,

@@ -1,13 +1,14 @@
 -- Text that is cut at the room of a line. Assumes nothing.
-use Rattle.std.proofs.Common.{◌≡◌, ℕ, zero, suc, ◌+◌, ◌<◌, ◌≤◌, Bool, true, false, cond, ltb, List, [], ◌∷◌, ◌++◌, length, get_or, take, sym, refl, ap, ◌∙◌, append_assoc, append-nil, arith}
-use Rattle.std.proofs.lemmas.List.{length-take, length-append, take_all, take-append-le, take_more}
-use Rattle.std.proofs.lemmas.Bool.{ltb-true, ltb-false}
+use Rattle.std.proofs.Common.{◌≡◌, ℕ, zero, suc, ◌+◌, ◌<◌, ◌≤◌, List, [], ◌∷◌, ◌++◌, length, get_or, take, sym, refl, ap, ◌∙◌, append_assoc, append-nil, inl, inr, arith}
+use Rattle.std.proofs.lemmas.List.{length-append, take_all, take-append-le, take_more}
+use Rattle.std.proofs.lemmas.Bool.{cases_lt}
+use Rattle.cells.proofs.Rowed.{length_listed}
 use Rattle.lines.specs.declared.Line.{Line}
 use Rattle.lines.specs.Lined.{room, written, followed}
 
 -- no line holds more than it has room for
 pub within : (l : Line) → length (written l) ≤ room
-within l = omega (arith, length-take l.bytes.used l.bytes.at, l.bytes.within)
+within l = omega (arith, length_listed l.bytes, l.bytes.within)
 
 -- what is cut off changes nothing of what is cut off later
 take_cut : (n : ℕ) (xs ys : List ℕ) → take n (take n xs ++ ys) ≡ take n (xs ++ ys)
@@ -33,12 +34,12 @@ unfolding followed
 followed_none l = sym (ap (take room) (append-nil (written l)) ∙ take_all room (written l) (within l))
 
 -- a byte is written, if there is room
-pub followed_byte : (l : Line) (b : ℕ) (t : Bool) → t ≡ ltb (length (written l)) room → cond t (written l ++ b ∷ []) (written l) ≡ followed (written l) (b ∷ [])
+pub followed_byte : (l : Line) (b : ℕ) (c : List ℕ) → (length (written l) < room → c ≡ written l ++ b ∷ []) → (room ≤ length (written l) → c ≡ written l) → c ≡ followed (written l) (b ∷ [])
 unfolding followed
-followed_byte l b true e =
-    sym (take_all room (written l ++ b ∷ []) (omega (arith, length-append (written l) (b ∷ []), ltb-true (length (written l)) room (sym e))))
-followed_byte l b false e =
-    sym (take-append-le room (written l) (b ∷ []) (ltb-false (length (written l)) room (sym e)) ∙ take_all room (written l) (within l))
+followed_byte l b c f g = elim (cases_lt (length (written l)) room) [
+  | inl h ↦ f h ∙ sym (take_all room (written l ++ b ∷ []) (omega (arith, length-append (written l) (b ∷ []))))
+  | inr h ↦ g h ∙ sym (take-append-le room (written l) (b ∷ []) h ∙ take_all room (written l) (within l))
+]
 
 -- one byte more of a text
 pub followed_more : (a b c bs : List ℕ) (i : ℕ) → i < length bs → b ≡ followed a (take i bs) → c ≡ followed b (get_or bs i 0 ∷ []) → c ≡ followed a (take (i + 1) bs)

@@ -1,20 +1,23 @@
 -- Money that comes in and goes out. Assumes nothing.
-use Rattle.std.proofs.Common.{◌≡◌, ℕ, ◌+◌, ◌<◌, ◌≤◌, Bool, true, false, cond, not, ◌||◌, ltb, List, [], ◌∷◌, ◌++◌, map, length, get_or, take, drop, ℤ, pos, ◌+ℤ◌, neg_ℤ, ◌≤ℤ◌, Some, None, sym, refl, ap, ◌∙◌, subst, arith}
+use Rattle.std.proofs.Common.{◌≡◌, ℕ, ◌+◌, Bool, true, false, cond, not, ◌||◌, ltb, List, [], ◌∷◌, ◌++◌, map, length, get_or, take, drop, ℤ, pos, ◌+ℤ◌, neg_ℤ, ◌≤ℤ◌, Some, None, Option, MatchOption, sym, refl, ap, ◌∙◌, subst, arith}
 use lib.Signed.{lt_z}
-use Rattle.std.proofs.lemmas.List.{get_or_past, length-map, map_push}
+use Rattle.std.proofs.lemmas.List.{get_or_past, map_push}
 use Rattle.std.proofs.lemmas.Int.{ints}
-use Rattle.std.proofs.lemmas.Bool.{cond-true, ltb-false, lt-ltb, le-ltb, or_from, or_left, or_right, not-true, not-false, and_parts}
+use Rattle.std.proofs.lemmas.Bool.{ltb-false, not-true, not-false, and_parts, and_from}
 use Rattle.figures.specs.Markets.{figure_if}
 use Rattle.scenario.specs.Table.{ScenarioTable}
 use Rattle.rules.specs.Bounds.{most_amount, most_standing, most_slips}
 use Rattle.rules.specs.Ledger.{Ledger, Holder, of_client, of_trader, of_member, Slip, Trader, Client, no_slip, no_trader, no_client, struck, is_standing, collateral_in, collateral_of, moved}
-use Rattle.rules.specs.Causes.{deposit, cause, opened, no_such_holder, is_amount, slips_of, amounts_of, next_slip, with_slips}
+use Rattle.rules.specs.Causes.{deposit, cause, within, opened, no_such_holder, is_amount, slips_of, amounts_of, next_slip, with_slips}
 use Rattle.rules.proofs.Funds.{lowered, collateral_opened}
 use Rattle.rules.proofs.Moves.{holder_exists}
 use Rattle.rules.proofs.Rows.{hit, skip, row_off}
 use Rattle.rules.proofs.Slips.{holder_itself, all_struck, standing_amount, amounts_struck, amounts_not_below}
 use Rattle.book.specs.declared.books.Book.{Book}
 use Rattle.book.specs.declared.stubs.Stub.{Stub}
+use Rattle.std.specs.Option.{UnwrapsOrElse}
+use Rattle.book.specs.declared.funds.Fund.{Fund}
+use Rattle.book.specs.Funded.{fund_if}
 use Rattle.book.specs.Ledgers.{ledger_in}
 use Rattle.book.specs.Means.{slip_in}
 use Rattle.book.proofs.Facts.{funded_in}
@@ -49,35 +52,43 @@ nothing_held l (of_client c) e = ap (λ (x : Client). x.collateral) (get_or_past
 nothing_held l (of_trader t) e = ap (λ (x : Trader). x.own) (get_or_past l.traders t no_trader (ltb-false _ _ (not-true _ e)))
 nothing_held l (of_member t) e = ap (λ (x : Trader). x.favour) (get_or_past l.traders t no_trader (ltb-false _ _ (not-true _ e)))
 
+-- so what is unwrapped for a holder is what it has
+pub held_or_none : (l : Ledger) (h : Holder) (o : Option Fund) (x : Fund) → MatchOption o (no_such_holder l h ≡ true) (λ y. (no_such_holder l h ≡ false) × (y.amount ≡ collateral_of l h)) → UnwrapsOrElse o (λ y. y.amount ≡ pos 0) x → x.amount ≡ collateral_of l h
+held_or_none l h None x e u = u ∙ sym (nothing_held l h e)
+held_or_none l h (Some y) x e u = ap (λ (f : Fund). f.amount) u ∙ e.1
+
+-- an amount in range is a fund
+pub fits_fund : (a : ℤ) → pos 0 ≤ℤ a → a ≤ℤ pos most_amount → None ≡ fund_if a → ⊥
+fits_fund a l h e =
+    let low : lt_z a (pos 0) ≡ false = grind (arith, ints) in
+    let high : lt_z (pos most_amount) a ≡ false = grind (arith, ints) in
+    let is : within (pos 0) (pos most_amount) a ≡ true = and_from _ _ (ap not low) (ap not high) in
+    let some : ◌≡◌ {A = Option ℤ} None (Some a) = e ∙ ap (λ (b : Bool). cond {A = Option ℤ} b (Some a) None) is in
+    let z : ◌≡◌ {A = ℕ} 0 1 = cc in
+    omega arith
+
+-- an amount that is no fund is too large
+pub no_fund : (a : ℤ) → pos 0 ≤ℤ a → None ≡ fund_if a → lt_z (pos most_amount) a ≡ true
+no_fund a l e = go (lt_z (pos most_amount) a) refl
+  where
+    go : (t : Bool) → lt_z (pos most_amount) a ≡ t → t ≡ true
+    go true q = refl
+    go false q = absurd (fits_fund a l (omega (arith, ints)) e)
+
+pub some_fund : (f : Fund) (a : ℤ) → Some f.amount ≡ fund_if a → f.amount ≡ a
+some_fund f a e = go (within (pos 0) (pos most_amount) a) e
+  where
+    go : (t : Bool) → Some f.amount ≡ cond {A = Option ℤ} t (Some a) None → f.amount ≡ a
+    go true q = cc
+    go false q = let z : ◌≡◌ {A = ℕ} 0 1 = cc in absurd (omega arith)
+
 -- ---- what is free
 
 pub deposit_free : (m : ScenarioTable) (l : Ledger) (h : Holder) (a : ℤ) → no_such_holder l h ≡ false → is_amount a ≡ true → lt_z (pos most_amount) (collateral_of l h +ℤ slips_of l h +ℤ a) ≡ false → cause m l (deposit h a) ≡ None
 deposit_free m l h a x y z = skip _ 10 _ _ x (skip _ 12 _ _ (ap not y) (skip _ 18 _ _ z refl))
 
--- ---- the rows of a withdrawal
-
-pub full_of_slips : (xs : List Stub) (n k : ℕ) → n ≡ length xs → most_standing ≤ n → (not (ltb (length (map slip_in xs)) most_standing) || not (ltb k most_slips)) ≡ true
-full_of_slips xs n k e h = or_left _ _ (ap not (le-ltb (length (map slip_in xs)) most_standing (omega (arith, length-map xs slip_in))))
-
-pub all_slips_made : (xs : List Stub) (k : ℕ) → most_slips ≤ k → (not (ltb (length (map slip_in xs)) most_standing) || not (ltb k most_slips)) ≡ true
-all_slips_made xs k h = or_right _ _ (ap not (le-ltb k most_slips h))
-
-pub room_for_a_slip : (xs : List Stub) (n k : ℕ) → n ≡ length xs → n < most_standing → k < most_slips → (not (ltb (length (map slip_in xs)) most_standing) || not (ltb k most_slips)) ≡ false
-room_for_a_slip xs n k e h i = or_from _ _ (ap not (lt-ltb (length (map slip_in xs)) most_standing (omega (arith, length-map xs slip_in)))) (ap not (lt-ltb k most_slips i))
-
-module _ (l : Ledger) (h : Holder) (a : ℤ) (known : no_such_holder l h ≡ false) where
-  pub no_slip_left : (not (ltb (length l.slips) most_standing) || not (ltb l.made most_slips)) ≡ true → Some 11 ≡ pay_cause l h a
-  no_slip_left e = sym (skip _ 10 _ _ known (hit _ 11 _ e))
-
-  module _ (room : (not (ltb (length l.slips) most_standing) || not (ltb l.made most_slips)) ≡ false) where
-    pub no_amount : is_amount a ≡ false → Some 12 ≡ pay_cause l h a
-    no_amount e = sym (skip _ 10 _ _ known (skip _ 11 _ _ room (hit _ 12 _ (ap not e))))
-
-    pub not_enough : is_amount a ≡ true → lt_z (collateral_of l h) a ≡ true → Some 19 ≡ pay_cause l h a
-    not_enough e f = sym (skip _ 10 _ _ known (skip _ 11 _ _ room (skip _ 12 _ _ (ap not e) (hit _ 19 _ f))))
-
-    pub pay_free : is_amount a ≡ true → lt_z (collateral_of l h) a ≡ false → None ≡ pay_cause l h a
-    pay_free e f = sym (skip _ 10 _ _ known (skip _ 11 _ _ room (skip _ 12 _ _ (ap not e) (skip _ 19 _ _ f refl))))
+pub deposit_over : (m : ScenarioTable) (l : Ledger) (h : Holder) (a : ℤ) → no_such_holder l h ≡ false → is_amount a ≡ true → lt_z (pos most_amount) (collateral_of l h +ℤ slips_of l h +ℤ a) ≡ true → cause m l (deposit h a) ≡ Some 18
+deposit_over m l h a x y z = skip _ 10 _ _ x (skip _ 12 _ _ (ap not y) (hit _ 18 _ z))
 
 -- what a free withdrawal tells
 pub record FreeToPay (l : Ledger) (h : Holder) (a : ℤ) : Type 0 where
@@ -130,9 +141,8 @@ room_for_back b s e =
     by x a u v e n h = omega (arith, ints)
 
 -- a slip more, by what it says
-pub pushed_slip : (xs ys : List Stub) (x : Stub) (s : Slip) (t : Bool) (n : ℕ) → ltb (length (map slip_in xs)) n ≡ true → t ≡ ltb (length xs) n → ys ≡ cond t (xs ++ x ∷ []) xs → slip_in x ≡ s → map slip_in ys ≡ map slip_in xs ++ s ∷ []
-pushed_slip xs ys x s t n r d e q =
-    ap (map slip_in) (e ∙ cond-true t (xs ++ x ∷ []) xs (d ∙ ap (λ (k : ℕ). ltb k n) (sym (length-map xs slip_in)) ∙ r)) ∙ map_push slip_in xs x ∙ ap (λ (v : Slip). map slip_in xs ++ v ∷ []) q
+pub pushed_slip : (xs ys : List Stub) (x : Stub) (s : Slip) → ys ≡ xs ++ x ∷ [] → slip_in x ≡ s → map slip_in ys ≡ map slip_in xs ++ s ∷ []
+pushed_slip xs ys x s e q = ap (map slip_in) e ∙ map_push slip_in xs x ∙ ap (λ (v : Slip). map slip_in xs ++ v ∷ []) q
 
 -- what holds of some money holds of the same
 pub capped_at : (ts ts' : List Trader) (cs cs' : List Client) (ss ss' : List Slip) → ts ≡ ts' → cs ≡ cs' → ss ≡ ss' → ((h : Holder) → (collateral_in ts' cs' h +ℤ amounts_of ss' h) ≤ℤ pos most_amount) → (h : Holder) → (collateral_in ts cs h +ℤ amounts_of ss h) ≤ℤ pos most_amount

@@ -19,40 +19,26 @@ use refusals::Refusal;
 pub fn set_cash(book: &mut Book, client: u64, amount: i64) -> Result<(), Refusal>
     ensures { (m : ScenarioTable) → Answered m (ledger_in book.old) (cashCall client amount) (answered (λ _. accepted) result) (ledger_in book.new) }
 {
-    let Some(row) = book.client(client) else {
+    let Some(row) = book.clients.get_mut(client as usize) else {
         return Err(Refusal::Unknown);
     };
-    let Some(cash) = Cash::new(amount) else {
-        return Err(Refusal::OutOfRange);
-    };
+    let cash = Cash::new(amount).ok_or(Refusal::OutOfRange)?;
     if book.passed {
         return Err(Refusal::AfterWindow);
     }
-    let mut changed = row;
-    changed.cash = cash;
-    book.clients.set(client as usize, changed);
+    row.cash = cash;
     Ok(())
 }
 
-// The row of a client, which is there.
-fn row_of(clients: &Rows<Client, 128>, place: usize) -> Client
-    requires { place < length (listed clients.now) }
-    ensures { result ≡ slice_index_or (listed clients.now) place result }
-{
-    match clients.get(place) {
-        Some(row) => row,
-        None => unreachable(),
-    }
-}
-
 // Makes every settlement amount 0.
+// Kept as a loop over places, here and below: the front of an array cannot be lent as a slice without a proof by hand as long as that of one cell.
 fn clear_cash(clients: &mut Rows<Client, 128>)
     ensures { clients_in clients.new ≡ map (with_cash (pos 0)) (clients_in clients.old) }
 {
     for place in 0..clients.len() {
-        let mut changed = row_of(clients, place);
-        changed.cash = Cash::none();
-        clients.set(place, changed);
+        if let Some(row) = clients.get_mut(place) {
+            row.cash = Cash::none();
+        }
     }
 }
 
@@ -73,9 +59,9 @@ fn set_needs(clients: &mut Rows<Client, 128>, needs: &[i64; 128])
     ensures { clients_in clients.new ≡ opened (λ c. get_or needs.now c (pos 0)) 0 (clients_in clients.old) }
 {
     for place in 0..clients.len() {
-        let mut changed = row_of(clients, place);
-        changed.opening_need = needs[place];
-        clients.set(place, changed);
+        if let Some(row) = clients.get_mut(place) {
+            row.opening_need = needs[place];
+        }
     }
 }
 

@@ -11,29 +11,25 @@ ghost use Rattle.book.specs.Ledgers.{ledger_in};
 ghost use Rattle.book.specs.Means.{slip_in};
 ghost use Rattle.money.specs.Paid.{pay_cause, Parts, PaidOut};
 
-use crate::accounts::{changed_by, collateral, is_fair_amount, is_too_much, set_collateral};
+use crate::accounts::{collateral, fair_amount, set_collateral};
 use crate::slips::{find, standing};
 use book::books::Book;
 use book::funds::Fund;
 use book::stubs::Stub;
 use orders::Holder;
 use refusals::Refusal;
-use rules::bounds::{MOST_SLIPS, MOST_STANDING};
+use rules::bounds::{MOST_AMOUNT, MOST_SLIPS, MOST_STANDING};
 
 /// Adds to the collateral of a holder.
 pub fn deposit(book: &mut Book, holder: Holder, amount: i64) -> Result<(), Refusal>
     ensures { (m : ScenarioTable) → Answered m (ledger_in book.old) (depositCall (holder_of holder) amount) (answered (λ _. accepted) result) (ledger_in book.new) }
 {
-    let Some(held) = collateral(book, holder) else {
-        return Err(Refusal::Unknown);
-    };
-    if !is_fair_amount(amount) {
-        return Err(Refusal::OutOfRange);
-    }
-    if is_too_much(held, standing(book.slips.as_slice(), holder), amount) {
+    let held = collateral(book, holder).ok_or(Refusal::Unknown)?;
+    let more = fair_amount(amount).ok_or(Refusal::OutOfRange)?;
+    let fund = held.checked_add(more).ok_or(Refusal::TooMuchCollateral)?;
+    if fund.amount + standing(book.slips.as_slice(), holder) > MOST_AMOUNT {
         return Err(Refusal::TooMuchCollateral);
     }
-    let fund = changed_by(held, amount);
     set_collateral(&mut book.traders, &mut book.clients, holder, fund);
     Ok(())
 }
@@ -50,20 +46,12 @@ fn parts(book: &Book, holder: Holder, amount: i64) -> Result<Parting, Refusal>
     ensures caused { refusal_of result ≡ pay_cause (ledger_in book.now) (holder_of holder) amount }
     ensures made { Parts (ledger_in book.now) (holder_of holder) amount result }
 {
-    let Some(held) = collateral(book, holder) else {
-        return Err(Refusal::Unknown);
-    };
+    let held = collateral(book, holder).ok_or(Refusal::Unknown)?;
     if book.slips.len() >= MOST_STANDING || book.made >= MOST_SLIPS {
         return Err(Refusal::TableFull);
     }
-    if !is_fair_amount(amount) {
-        return Err(Refusal::OutOfRange);
-    }
-    if held.amount < amount {
-        return Err(Refusal::NotCovered);
-    }
-    let left = changed_by(held, -amount);
-    let paid = changed_by(Fund::none(), amount);
+    let paid = fair_amount(amount).ok_or(Refusal::OutOfRange)?;
+    let left = held.checked_sub(paid).ok_or(Refusal::NotCovered)?;
     Ok(Parting { left, paid })
 }
 
@@ -79,7 +67,7 @@ pub fn pay_out(book: &mut Book, holder: Holder, amount: i64) -> Result<Stub, Ref
         amount: parting.paid,
     };
     set_collateral(&mut book.traders, &mut book.clients, holder, parting.left);
-    book.slips.push(stub);
+    book.slips.push(stub).or(Err(Refusal::TableFull))?;
     book.made = serial;
     Ok(stub)
 }
@@ -88,21 +76,21 @@ pub fn pay_out(book: &mut Book, holder: Holder, amount: i64) -> Result<Stub, Ref
 pub fn settle(book: &mut Book, stub: Stub) -> Result<(), Refusal>
     ensures { (m : ScenarioTable) → Answered m (ledger_in book.old) (settleCall (slip_in stub)) (answered (λ _. accepted) result) (ledger_in book.new) }
 {
-    let Some(place) = find(book.slips.as_slice(), stub) else {
-        return Err(Refusal::NoSuchSlip);
-    };
+    let place = find(book.slips.as_slice(), stub).ok_or(Refusal::NoSuchSlip)?;
     book.slips.remove(place);
     Ok(())
 }
 
 // What a holder has when the amount of a standing slip is given back to it.
+// Kept with a place that is never reached: that a standing slip leaves room for its amount is a fact of the whole book, which no type of a fund or a slip can say.
 fn restored(book: &Book, stub: Stub) -> Fund
     requires { is_standing (slip_in stub) (ledger_in book.now).slips ≡ true }
     ensures { result.amount ≡ collateral_of (ledger_in book.now) (holder_of stub.holder) +ℤ stub.amount.amount }
 {
-    match collateral(book, stub.holder) {
-        Some(held) => changed_by(held, stub.amount.amount),
-        None => stub.amount,
+    let held = collateral(book, stub.holder).unwrap_or_default();
+    match held.checked_add(stub.amount) {
+        Some(fund) => fund,
+        None => unreachable(),
     }
 }
 
@@ -110,9 +98,7 @@ fn restored(book: &Book, stub: Stub) -> Fund
 pub fn put_back(book: &mut Book, stub: Stub) -> Result<(), Refusal>
     ensures { (m : ScenarioTable) → Answered m (ledger_in book.old) (putBackCall (slip_in stub)) (answered (λ _. accepted) result) (ledger_in book.new) }
 {
-    let Some(place) = find(book.slips.as_slice(), stub) else {
-        return Err(Refusal::NoSuchSlip);
-    };
+    let place = find(book.slips.as_slice(), stub).ok_or(Refusal::NoSuchSlip)?;
     let fund = restored(book, stub);
     set_collateral(&mut book.traders, &mut book.clients, stub.holder, fund);
     book.slips.remove(place);

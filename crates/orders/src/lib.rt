@@ -3,7 +3,7 @@
 #![tactic(auto)]
 
 /// Which way a trade goes.
-#[derive(Clone, Copy)]
+#[derive(Clone, Copy, Debug, PartialEq, Eq)]
 pub enum Side {
     /// The contracts were bought.
     Buy,
@@ -12,7 +12,7 @@ pub enum Side {
 }
 
 /// Whose collateral it is.
-#[derive(Clone, Copy)]
+#[derive(Clone, Copy, Debug, PartialEq, Eq)]
 pub enum Holder {
     /// A client's.
     Client(u64),
@@ -23,7 +23,7 @@ pub enum Holder {
 }
 
 /// What was traded: how many of a contract, which way, and at which price in ticks.
-#[derive(Clone, Copy)]
+#[derive(Clone, Copy, Debug, PartialEq, Eq)]
 pub struct Lot {
     /// The contract's number.
     pub contract: u64,
@@ -36,7 +36,7 @@ pub struct Lot {
 }
 
 /// An order of the day. Money is in centavos.
-#[derive(Clone, Copy)]
+#[derive(Clone, Copy, Debug, PartialEq, Eq)]
 pub enum Order {
     /// A trader, with its intraday limit and its default count.
     Trader(i64, i64),

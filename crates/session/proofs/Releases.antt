@@ -1,47 +1,22 @@
--- Withdrawals and cancellations by their rows. Assumes nothing.
-use Rattle.std.proofs.Common.{◌≡◌, ℕ, Bool, true, false, cond, not, ◌&&◌, ◌||◌, ltb, length, ℤ, pos, Some, None, Ok, Err, Option, sym, refl, ap, ◌∙◌, arith}
+-- Withdrawals by their rows. Assumes nothing.
+use Rattle.std.proofs.Common.{◌≡◌, ℕ, Bool, true, false, cond, not, ◌||◌, ltb, length, ℤ, pos, Some, None, Ok, Err, Option, Result, subst, sym, refl, ap, ◌∙◌, arith}
 use lib.Signed.{lt_z}
 use Rattle.std.proofs.lemmas.Bool.{false≢true}
 use Rattle.scenario.specs.Table.{ScenarioTable}
 use Rattle.rules.specs.Bounds.{most_standing, most_slips}
-use Rattle.rules.specs.Ledger.{Ledger, Holder, trade_of, collateral_of, holders_trader}
+use Rattle.rules.specs.Ledger.{Ledger, Holder, Slip, collateral_of, holders_trader}
 use Rattle.rules.specs.Limits.{limit}
-use Rattle.rules.specs.Causes.{cancel, withdraw, cause, entered, short, no_such_trade, no_such_holder, is_specified, is_amount}
-use Rattle.rules.specs.Answers.{Answered, refused, handed}
-use Rattle.rules.proofs.Answered.{refuses, accepts}
-use Rattle.rules.proofs.Rows.{skip, row_off}
+use Rattle.rules.specs.Causes.{withdraw, cause, entered, short, no_such_holder, is_amount}
+use Rattle.rules.specs.Answers.{Answered, refused}
+use Rattle.rules.proofs.Answered.{refuses}
+use Rattle.rules.proofs.Rows.{skip}
 use Rattle.refusals.specs.declared.Refusal.{Refusal}
 use Rattle.refusals.specs.Numbers.{number_of}
 use Rattle.book.specs.declared.stubs.Stub.{Stub}
-use Rattle.book.specs.Means.{slip_in}
-use Rattle.entries.specs.Lots.{release_cause}
+use Rattle.std.specs.Result.{IsErrAnd}
+use Rattle.orders.specs.Meant.{holder_of}
 use Rattle.money.specs.Paid.{pay_cause, PaidOut}
 use Rattle.money.proofs.Paying.{FreeToPay, free_to_pay}
-
--- ---- a cancellation
-
-module _ (m : ScenarioTable) (l : Ledger) (i : ℕ) where
-  -- its trader's limit falls, and to below zero
-  abbrev pub sinks : Bool
-  sinks = lt_z (limit m (entered m l (cancel i)) (trade_of l i).trader) (limit m l (trade_of l i).trader) && lt_z (limit m (entered m l (cancel i)) (trade_of l i).trader) (pos 0)
-
-  -- what refuses it before the limit is looked at
-  pub not_cancelled : (n : ℕ) → Some n ≡ release_cause l i → cause m l (cancel i) ≡ Some n
-  not_cancelled n e = go (no_such_trade l i) (not (is_specified (trade_of l i))) sinks e
-    where
-      go : (a b c : Bool) → Some n ≡ cond {A = Option ℕ} a (Some 10) (cond b (Some 16) None) → cond {A = Option ℕ} a (Some 10) (cond b (Some 16) (cond c (Some 19) None)) ≡ Some n
-      go true b c q = sym q
-      go false true c q = sym q
-      go false false c q = let z : ◌≡◌ {A = ℕ} 0 1 = cc in absurd (omega arith)
-
-  -- then the limit alone decides
-  pub cancelled_by_limit : None ≡ release_cause l i → cause m l (cancel i) ≡ cond {A = Option ℕ} sinks (Some 19) None
-  cancelled_by_limit e =
-      let p = row_off (no_such_trade l i) 10 _ (sym e) in
-      let q = row_off (not (is_specified (trade_of l i))) 16 _ p.1 in
-      skip _ 10 _ _ p.0 (skip _ 16 _ _ q.0 refl)
-
--- ---- a withdrawal
 
 module _ (m : ScenarioTable) (l : Ledger) (h : Holder) (a : ℤ) where
   -- a client falls short of its needs, or its trader's limit is below zero
@@ -75,11 +50,16 @@ module _ (m : ScenarioTable) (l : Ledger) (h : Holder) (a : ℤ) (l' : Ledger) w
   withdraw_refused e p = refuses m l (withdraw h a) (number_of e) (not_paid m l h a (number_of e) p.caused)
 
   module _ (s : Stub) (p : PaidOut l h a (Ok s) l') where
-    decided : (t : Bool) → t ≡ (short m l h a || lt_z (limit m l' (holders_trader l h)) (pos 0)) → cause m l (withdraw h a) ≡ cond {A = Option ℕ} t (Some 19) None
-    decided t e = paid_if_covered m l h a p.caused ∙ ap (λ (k : Ledger). cond {A = Option ℕ} (short m l h a || lt_z (limit m k (holders_trader l h)) (pos 0)) (Some 19) None) (sym p.leaves) ∙ ap (λ (b : Bool). cond {A = Option ℕ} b (Some 19) None) (sym e)
+    -- what was asked of the slip was asked of the holder and the amount
+    decided : (t : Bool) → (no_such_holder l (holder_of s.holder) ≡ false → t ≡ (short m l (holder_of s.holder) s.amount.amount || lt_z (limit m l' (holders_trader l (holder_of s.holder))) (pos 0))) → cause m l (withdraw h a) ≡ cond {A = Option ℕ} t (Some 19) None
+    decided t e =
+        let is = subst (λ (x : Slip). no_such_holder l x.holder ≡ false → t ≡ (short m l x.holder x.amount || lt_z (limit m l' (holders_trader l x.holder)) (pos 0))) p.slip e (free_to_pay l h a p.caused).known in
+        paid_if_covered m l h a p.caused ∙ ap (λ (k : Ledger). cond {A = Option ℕ} (short m l h a || lt_z (limit m k (holders_trader l h)) (pos 0)) (Some 19) None) (sym p.leaves) ∙ ap (λ (b : Bool). cond {A = Option ℕ} b (Some 19) None) (sym is)
 
-    pub withdraw_uncovered : true ≡ (short m l h a || lt_z (limit m l' (holders_trader l h)) (pos 0)) → Answered m l (withdraw h a) (refused 19) l
+    pub withdraw_uncovered : (no_such_holder l (holder_of s.holder) ≡ false → true ≡ (short m l (holder_of s.holder) s.amount.amount || lt_z (limit m l' (holders_trader l (holder_of s.holder))) (pos 0))) → Answered m l (withdraw h a) (refused 19) l
     withdraw_uncovered e = refuses m l (withdraw h a) 19 (decided true e)
 
-    pub withdraw_paid : false ≡ (short m l h a || lt_z (limit m l' (holders_trader l h)) (pos 0)) → Answered m l (withdraw h a) (handed (slip_in s)) l'
-    withdraw_paid e = accepts m l (withdraw h a) (handed (slip_in s)) l' (decided false e) (ap handed p.slip) p.leaves
+-- the refusal that a `?` answers
+pub err_is : {X : Type 0} (r : Result X Refusal) (e : Refusal) → IsErrAnd r (λ y. y ≡ e) → r ≡ Err e
+err_is (Ok x) e p = absurd p
+err_is (Err y) e p = ap Err p

@@ -3,7 +3,9 @@ use Rattle.std.specs.Prelude.{◌≡◌, Ok, Err, Result}
 use Rattle.refusals.specs.declared.Refusal.{Refusal}
 use Rattle.refusals.specs.Numbers.{number_of}
 use Rattle.rules.specs.Ledger.{Ledger, Slip}
-use Rattle.rules.specs.Answers.{Answer, accepted, refused}
+use Rattle.rules.specs.Answers.{Answer, Answered, accepted, refused}
+use Rattle.rules.specs.Causes.{Call}
+use Rattle.scenario.specs.Table.{ScenarioTable}
 use Rattle.book.specs.Ledgers.{ledger_in}
 use Rattle.book.specs.Means.{slip_in}
 use Rattle.session.specs.declared.phases.Preparation.{Preparation}
@@ -16,6 +18,17 @@ module _ {M : Type 0} where
 
   abbrev pub open_ledger : Session M → Ledger
   open_ledger s = ledger_in s.book
+
+module _ {M : Type 0} (table : M → ScenarioTable) where
+  -- the promise of each call that changes a preparation: it answers and enters by the rules, over the model as it was
+  pub record Prepares (p : Preparation M) (x : Call) (r : Answer) (q : Preparation M) : Type 0 where
+    pub rules : Answered (table p.model) (prepared p) x r (prepared q)
+    pub model : q.model ≡ p.model
+
+  -- the same of a session
+  pub record Enters (s : Session M) (x : Call) (r : Answer) (t : Session M) : Type 0 where
+    pub rules : Answered (table s.model) (open_ledger s) x r (open_ledger t)
+    pub model : t.model ≡ s.model
 
 abbrev pub slip_of : Held → Slip
 slip_of s = slip_in s.stub

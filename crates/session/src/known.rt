@@ -8,11 +8,7 @@ use scenario::ScenarioModel;
 pub(crate) fn placed<M: ScenarioModel>(model: &M, contract: u64) -> Option<u8>
     ensures { result ≡ placed_in (M.ScenarioModel.table model.now) contract }
 {
-    let Ok(number) = u8::try_from(contract) else {
-        return None;
-    };
-    match model.place(number) {
-        Some(_) => Some(number),
-        None => None,
-    }
+    let number = u8::try_from(contract).ok()?;
+    model.place(number)?;
+    Some(number)
 }

@@ -1,4 +1,5 @@
 //! The two times of a day.
+// Kept as two types over the same fields: a call of one time cannot be made in the other.
 use book::books::Book;
 
 pub mod opened;

@@ -68,7 +68,7 @@ pub(crate) fn collect<A: Asked>(cells: &[TradeCell], asked: &A) -> Rows<Position
     let mut found = Rows::of([unfilled; MOST_POSITIONS]);
     for cell in cells {
         if let Some(position) = asked.position_in(cell) {
-            found.push(position);
+            let _ = found.push(position);
         }
     }
     found

@@ -25,7 +25,7 @@ fn deficits_of(clients: &Rows<ClientFigures, 128>) -> Rows<Deficit, 128>
     };
     let mut found = Rows::of([nothing; MOST_DEFICITS]);
     for client in clients.as_slice() {
-        found.push(Deficit {
+        let _ = found.push(Deficit {
             amount: client.deficit,
             client: client.number,
         });

@@ -7,52 +7,11 @@ ghost use Rattle.book.specs.Means.{trader_in, client_in, trade_in, traders_in, c
 
 use crate::books::Book;
 use crate::clients::Client;
-use crate::funds::Fund;
-use crate::stubs::Stub;
 use crate::traders::Trader;
 use crate::trades::TradeTable;
 use crate::trades::standing::TradeCell;
 use cells::rows::Rows;
-use figures::cash::Cash;
 use figures::prices::Prices;
-use orders::Holder;
-use rules::bounds::{MOST_CLIENTS, MOST_STANDING, MOST_TRADERS};
-
-// The rows of traders, of clients and of slips, with none in them.
-fn no_traders() -> Rows<Trader, 16>
-    ensures { traders_in result ≡ [] }
-{
-    let nobody = Trader {
-        intraday: Fund::none(),
-        defaults: 0,
-        own: Fund::none(),
-        favour: Fund::none(),
-    };
-    Rows::of([nobody; MOST_TRADERS])
-}
-
-fn no_clients() -> Rows<Client, 128>
-    ensures { clients_in result ≡ [] }
-{
-    let nobody = Client {
-        trader: 0,
-        collateral: Fund::none(),
-        cash: Cash::none(),
-        opening_need: 0,
-    };
-    Rows::of([nobody; MOST_CLIENTS])
-}
-
-fn no_slips() -> Rows<Stub, 32>
-    ensures { slips_in result ≡ [] }
-{
-    let none = Stub {
-        serial: 0,
-        holder: Holder::Client(0),
-        amount: Fund::none(),
-    };
-    Rows::of([none; MOST_STANDING])
-}
 
 impl Book {
     /// A book in which nothing is entered.
@@ -60,11 +19,11 @@ impl Book {
         ensures { ledger_in result ≡ empty_ledger }
     {
         Book {
-            traders: no_traders(),
-            clients: no_clients(),
+            traders: Rows::new(),
+            clients: Rows::new(),
             trades: TradeTable::new(),
             prices: Prices::new(),
-            slips: no_slips(),
+            slips: Rows::new(),
             made: 0,
             passed: false,
         }

@@ -1,6 +1,6 @@
 //! How trades are entered and read.
-ghost use Rattle.std.specs.Prelude.{◌≡◌, ◌<◌, ◌≤◌, true, [], ◌∷◌, ◌++◌, length, if◌then◌else◌, Err, MatchOption, nat_lt, slice_index_or, slice_set};
-ghost use Rattle.refusals.specs.declared.Refusal.TheVariants.{Unknown};
+ghost use Rattle.std.specs.Prelude.{◌≡◌, ◌<◌, ◌≤◌, true, [], ◌∷◌, ◌++◌, length, Ok, Err, MatchOption, slice_index_or, slice_set};
+ghost use Rattle.refusals.specs.declared.Refusal.TheVariants.{Unknown, TableFull};
 ghost use Rattle.book.specs.declared.trades.standing.TradeCell.TheVariants.{Empty};
 ghost use Rattle.book.specs.Filled.{is_filled, each_filled};
 ghost use Rattle.book.specs.Standings.{cell_after, cell_for, change_answer};
@@ -8,29 +8,9 @@ ghost use Rattle.book.specs.Tabled.{cells_in};
 
 use crate::trades::TradeTable;
 use crate::trades::standing::{Change, Trade, TradeCell};
-use cells::Cells;
+use cells::rows::Rows;
 use refusals::Refusal;
 use rules::bounds::MOST_TRADES;
-
-// Changes the trade in one cell, which is lent for it, and no other.
-fn change_at(cells: &mut Cells<TradeCell, 1024>, i: usize, change: Change) -> Result<(), Refusal>
-    ensures within { i < 1024 → (result ≡ change_answer (slice_index_or cells.old.at i Empty) change) × (cells.new ≡ record { at = slice_set cells.old.at i (cell_after (slice_index_or cells.old.at i Empty) change) }) }
-    ensures past { 1024 ≤ i → cells.new ≡ cells.old }
-{
-    match cells.get_mut(i) {
-        Some(cell) => cell.change(change),
-        None => Err(Refusal::Unknown),
-    }
-}
-
-// Writes a cell, which is lent for it, and no other.
-fn write_at(cells: &mut Cells<TradeCell, 1024>, i: usize, written: TradeCell)
-    ensures { i < 1024 → cells.new ≡ record { at = slice_set cells.old.at i written } }
-{
-    if let Some(cell) = cells.get_mut(i) {
-        *cell = written;
-    }
-}
 
 // The cell of a new trade.
 fn cell_for(trade: Trade, client: Option<u8>) -> TradeCell
@@ -48,9 +28,9 @@ impl TradeTable {
     pub fn new() -> TradeTable
         ensures { cells_in result ≡ [] }
     {
+        // Kept as a repeated cell, where the other tables begin with a default: the cells of trades begin as empty ones.
         TradeTable {
-            cells: Cells::of([TradeCell::Empty; MOST_TRADES]),
-            used: 0,
+            rows: Rows::of([TradeCell::Empty; MOST_TRADES]),
         }
     }
 
@@ -58,7 +38,7 @@ impl TradeTable {
     pub fn len(&self) -> usize
         ensures { result ≡ length (cells_in self.now) }
     {
-        self.used
+        self.rows.len()
     }
 
     /// The cells of the trades, none of which is empty.
@@ -67,33 +47,24 @@ impl TradeTable {
         ensures few { length (cells_in self.now) ≤ 1024 }
         ensures filled { each_filled (cells_in self.now) ≡ true }
     {
-        let all = self.cells.as_slice();
-        &all[0..self.used]
+        self.rows.as_slice()
     }
 
     /// The cell of a trade, `None` past the last.
     pub fn get(&self, i: usize) -> Option<TradeCell>
         ensures { MatchOption result (length (cells_in self.now) ≤ i) (λ x. (i < length (cells_in self.now)) × (x ≡ slice_index_or (cells_in self.now) i Empty) × (is_filled x ≡ true)) }
     {
-        if i >= self.used {
-            return None;
-        }
-        let all = self.cells.as_slice();
-        Some(all[i])
+        self.rows.get(i)
     }
 
-    /// A trade more, in the first empty cell: carried from yesterday for a client, or with no client yet. `false`, with nothing changed, where all cells are filled.
-    pub fn enter(&mut self, trade: Trade, client: Option<u8>) -> bool
-        ensures said { result ≡ nat_lt (length (cells_in self.old)) 1024 }
-        ensures after { cells_in self.new ≡ (if result then cells_in self.old ++ cell_for trade client ∷ [] else cells_in self.old) }
+    /// A trade more, in the first empty cell: carried from yesterday for a client, or with no client yet. Nothing changes where all cells are filled.
+    pub fn enter(&mut self, trade: Trade, client: Option<u8>) -> Result<(), Refusal>
+        ensures room { length (cells_in self.old) < 1024 → (result ≡ Ok tt) × (cells_in self.new ≡ cells_in self.old ++ cell_for trade client ∷ []) }
+        ensures full { 1024 ≤ length (cells_in self.old) → (result ≡ Err TableFull) × (cells_in self.new ≡ cells_in self.old) }
     {
-        if self.used >= MOST_TRADES {
-            return false;
-        }
-        let place = self.used;
-        write_at(&mut self.cells, place, cell_for(trade, client));
-        self.used = place + 1;
-        true
+        self.rows
+            .push(cell_for(trade, client))
+            .or(Err(Refusal::TableFull))
     }
 
     /// Changes where a trade stands. Past the last trade it is unknown, and nothing changes.
@@ -101,9 +72,9 @@ impl TradeTable {
         ensures known { i < length (cells_in self.old) → (result ≡ change_answer (slice_index_or (cells_in self.old) i Empty) change) × (cells_in self.new ≡ slice_set (cells_in self.old) i (cell_after (slice_index_or (cells_in self.old) i Empty) change)) }
         ensures past { length (cells_in self.old) ≤ i → (result ≡ Err Unknown) × (cells_in self.new ≡ cells_in self.old) }
     {
-        if i >= self.used {
-            return Err(Refusal::Unknown);
+        match self.rows.get_mut(i) {
+            Some(cell) => cell.change(change),
+            None => Err(Refusal::Unknown),
         }
-        change_at(&mut self.cells, i, change)
     }
 }

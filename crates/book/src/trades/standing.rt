@@ -6,7 +6,7 @@ use figures::position::Position;
 use refusals::Refusal;
 
 /// A trade: whose it is, and what was traded.
-#[derive(Clone, Copy)]
+#[derive(Clone, Copy, Debug, PartialEq, Eq)]
 pub struct Trade {
     /// Its trader's number.
     pub trader: u8,
@@ -15,7 +15,7 @@ pub struct Trade {
 }
 
 /// The cell of a trade.
-#[derive(Clone, Copy)]
+#[derive(Clone, Copy, Debug, PartialEq, Eq)]
 pub enum TradeCell {
     /// No trade is in it.
     Empty,
@@ -28,7 +28,7 @@ pub enum TradeCell {
 }
 
 /// What can be asked of a trade.
-#[derive(Clone, Copy)]
+#[derive(Clone, Copy, Debug, PartialEq, Eq)]
 pub enum Change {
     /// That it goes to a client.
     Specify(u8),
@@ -42,24 +42,14 @@ impl TradeCell {
         ensures after { self.new ≡ cell_after self.old change }
         ensures said { result ≡ change_answer self.old change }
     {
-        match *self {
-            TradeCell::Unspecified(trade) => match change {
-                Change::Specify(client) => {
-                    let next = TradeCell::Specified(trade, client);
-                    *self = next;
-                    Ok(())
-                }
-                Change::Cancel => Err(Refusal::WrongState),
-            },
-            TradeCell::Specified(trade, _) => match change {
-                Change::Specify(_) => Err(Refusal::WrongState),
-                Change::Cancel => {
-                    let next = TradeCell::Unspecified(trade);
-                    *self = next;
-                    Ok(())
-                }
-            },
-            _ => Err(Refusal::WrongState),
-        }
+        let next = match (*self, change) {
+            (TradeCell::Unspecified(trade), Change::Specify(client)) => {
+                TradeCell::Specified(trade, client)
+            }
+            (TradeCell::Specified(trade, _), Change::Cancel) => TradeCell::Unspecified(trade),
+            _ => return Err(Refusal::WrongState),
+        };
+        *self = next;
+        Ok(())
     }
 }

@@ -1,15 +1,55 @@
 //! What is done with rows.
-ghost use Rattle.std.specs.Prelude.{◌≡◌, ◌+◌, ◌-◌, ◌<◌, ◌≤◌, [], ◌∷◌, ◌++◌, length, take, drop, if◌then◌else◌, MatchOption, nat_lt, slice_index_or, slice_set};
+ghost use Rattle.std.specs.Prelude.{◌≡◌, ◌+◌, ◌-◌, ◌<◌, ◌≤◌, [], ◌∷◌, ◌++◌, length, take, drop, Ok, Err, MatchOption, slice_index_or};
+ghost use Rattle.std.specs.Borrow.{sem, follows, follows_if};
+ghost use Rattle.std.specs.Option.{ghost_name_of as name_of};
 ghost use Rattle.cells.specs.Listed.{listed};
 
+use crate::cells::Cells;
 use crate::rows::Rows;
+
+impl<T, const N: usize> Rows<T, N> {
+    ghost use Rattle.cells.specs.contracts.rows.Rows.{the_row};
+    ghost use Rattle.cells.specs.Lent.{with_row};
+
+    // The row at a place.
+    fn row(&mut self, i: usize) -> &mut T
+        requires { i < length (listed self.old) }
+        ensures* writes_back { sem 𝓛 (follows (the_row T.row N.row) T.row self.entry.ghost_name result.ghost_name (with_row self.old i)) }
+        ensures value { result.now ≡ slice_index_or (listed self.old) i result.now }
+    {
+        self.cells.cell(i)
+    }
+
+    /// Lends the row at a place: when the loan ends, that row is what was left there, and every other what it was. `None` past the last.
+    pub fn get_mut(&mut self, i: usize) -> Option<&mut T>
+        ensures* writes_back { sem 𝓛 (follows_if (the_row T.row N.row) T.row self.entry.ghost_name (name_of result) (with_row self.old i) self.old) }
+        ensures value { MatchOption result (length (listed self.old) ≤ i) (λ x. (i < length (listed self.old)) × (x.now ≡ slice_index_or (listed self.old) i x.now)) }
+    {
+        if i >= self.used {
+            return None;
+        }
+        Some(self.row(i))
+    }
+}
 
 impl<T: Copy, const N: usize> Rows<T, N> {
     /// No row yet, in the room of `at`.
     pub fn of(at: [T; N]) -> Rows<T, N>
         ensures { listed result ≡ [] }
     {
-        Rows { at, used: 0 }
+        Rows {
+            cells: Cells { at },
+            used: 0,
+        }
+    }
+
+    /// No row yet.
+    pub fn new() -> Rows<T, N>
+    where
+        T: Default,
+        ensures { listed result ≡ [] }
+    {
+        Rows::of([T::default(); N])
     }
 
     /// How many rows there are.
@@ -25,57 +65,36 @@ impl<T: Copy, const N: usize> Rows<T, N> {
         ensures value { result.now ≡ listed self.now }
         ensures few { length (listed self.now) ≤ N }
     {
-        let all = &self.at[..];
-        &all[0..self.used]
+        &self.cells.at[..self.used]
     }
 
     /// The row at a place, `None` past the last.
     pub fn get(&self, i: usize) -> Option<T>
         ensures { MatchOption result (length (listed self.now) ≤ i) (λ x. (i < length (listed self.now)) × (x ≡ slice_index_or (listed self.now) i x)) }
     {
-        if i >= self.used {
-            return None;
-        }
-        Some(self.at[i])
+        self.as_slice().get(i).copied()
     }
 
-    /// A row more, behind the others. `false`, with nothing changed, where all `N` places are filled.
-    pub fn push(&mut self, x: T) -> bool
-        ensures said { result ≡ nat_lt (length (listed self.old)) N }
-        ensures after { listed self.new ≡ (if result then listed self.old ++ x ∷ [] else listed self.old) }
+    /// A row more, behind the others. It comes back, with nothing changed, where all `N` places are filled.
+    pub fn push(&mut self, x: T) -> Result<(), T>
+        ensures room { length (listed self.old) < N → (result ≡ Ok tt) × (listed self.new ≡ listed self.old ++ x ∷ []) }
+        ensures full { N ≤ length (listed self.old) → (result ≡ Err x) × (listed self.new ≡ listed self.old) }
     {
         if self.used >= N {
-            return false;
+            return Err(x);
         }
-        let place = self.used;
-        self.at[place] = x;
-        self.used = place + 1;
-        true
-    }
-
-    /// Another row at a place. Nothing changes past the last.
-    pub fn set(&mut self, i: usize, x: T)
-        ensures { listed self.new ≡ slice_set (listed self.old) i x }
-    {
-        if i < self.used {
-            self.at[i] = x;
-        }
+        self.cells.at[self.used] = x;
+        self.used += 1;
+        Ok(())
     }
 
     /// Takes the row at a place away: those behind it move up. Nothing changes past the last.
     pub fn remove(&mut self, i: usize)
         ensures { listed self.new ≡ take i (listed self.old) ++ drop (i + 1) (listed self.old) }
     {
-        let used = self.used;
-        if i >= used {
-            return;
+        if i < self.used {
+            self.cells.at.copy_within(i + 1..self.used, i);
+            self.used -= 1;
         }
-        let mut place = i;
-        while place < used - 1 {
-            let next = self.at[place + 1];
-            self.at[place] = next;
-            place += 1;
-        }
-        self.used = used - 1;
     }
 }

@@ -6,6 +6,14 @@ ghost use Rattle.figures.specs.Settled.{settled};
 use crate::bounds::MOST_CASH;
 use crate::cash::Cash;
 
+impl Default for Cash {
+    ghost is_default = { λ x. x.amount ≡ pos 0 };
+
+    fn default() -> Cash {
+        Cash::none()
+    }
+}
+
 impl Cash {
     /// Nothing to receive and nothing to pay.
     pub fn none() -> Cash

@@ -5,7 +5,7 @@ ghost use Rattle.orders.specs.Replied.{answered};
 ghost use Rattle.rules.specs.Answers.{Answered, accepted, numbered, stated};
 ghost use Rattle.rules.specs.Causes.{price as priceCall, deposit as depositCall, specify as specifyCall, cash as cashCall, window as windowCall, statement as statementCall, settle as settleCall, put_back as putBackCall};
 ghost use Rattle.statements.specs.Stated.{statement_in};
-ghost use Rattle.session.specs.Phases.{open_ledger, slip_of, spent, ComesBack, AsItWas};
+ghost use Rattle.session.specs.Phases.{open_ledger, slip_of, Enters, spent, ComesBack, AsItWas};
 
 use crate::known::placed;
 use crate::phases::Session;
@@ -29,8 +29,7 @@ impl<M: ScenarioModel> Session<M> {
 
     /// A trade of a trader, which has no client yet. It answers the trade's number.
     pub fn trade(&mut self, trader: u64, lot: Lot) -> Result<u64, Refusal>
-        ensures rules { Answered (M.ScenarioModel.table self.old.model) (open_ledger self.old) (trade_of_lot trader lot) (answered numbered result) (open_ledger self.new) }
-        ensures model { self.new.model ≡ self.old.model }
+        ensures { Enters M.ScenarioModel.table self.old (trade_of_lot trader lot) (answered numbered result) self.new }
     {
         let known = placed(&self.model, lot.contract);
         enter_trade(&mut self.book, trader, lot, known)
@@ -38,50 +37,39 @@ impl<M: ScenarioModel> Session<M> {
 
     /// A trade goes to a client of its trader.
     pub fn specify(&mut self, trade: u64, client: u64) -> Result<(), Refusal>
-        ensures rules { Answered (M.ScenarioModel.table self.old.model) (open_ledger self.old) (specifyCall trade client) (answered (λ _. accepted) result) (open_ledger self.new) }
-        ensures model { self.new.model ≡ self.old.model }
+        ensures { Enters M.ScenarioModel.table self.old (specifyCall trade client) (answered (λ _. accepted) result) self.new }
     {
         specify(&mut self.book, trade, client)
     }
 
     /// Collateral for a holder.
     pub fn deposit(&mut self, holder: Holder, amount: i64) -> Result<(), Refusal>
-        ensures rules { Answered (M.ScenarioModel.table self.old.model) (open_ledger self.old) (depositCall (holder_of holder) amount) (answered (λ _. accepted) result) (open_ledger self.new) }
-        ensures model { self.new.model ≡ self.old.model }
+        ensures { Enters M.ScenarioModel.table self.old (depositCall (holder_of holder) amount) (answered (λ _. accepted) result) self.new }
     {
         deposit(&mut self.book, holder, amount)
     }
 
     /// Settles a slip. Where none like it stands, it comes back.
     pub fn settle(&mut self, slip: Slip) -> Result<(), (Refusal, Slip)>
-        ensures rules { Answered (M.ScenarioModel.table self.old.model) (open_ledger self.old) (settleCall (slip_of slip)) (spent result) (open_ledger self.new) }
+        ensures entered { Enters M.ScenarioModel.table self.old (settleCall (slip_of slip)) (spent result) self.new }
         ensures back { ComesBack result slip }
-        ensures model { self.new.model ≡ self.old.model }
     {
         let Slip { stub } = slip;
-        match settle(&mut self.book, stub) {
-            Ok(()) => Ok(()),
-            Err(refusal) => Err((refusal, Slip { stub })),
-        }
+        settle(&mut self.book, stub).map_err(|refusal| (refusal, Slip { stub }))
     }
 
     /// Puts a slip back: its amount returns to its holder. Where none like it stands, it comes back.
     pub fn put_back(&mut self, slip: Slip) -> Result<(), (Refusal, Slip)>
-        ensures rules { Answered (M.ScenarioModel.table self.old.model) (open_ledger self.old) (putBackCall (slip_of slip)) (spent result) (open_ledger self.new) }
+        ensures entered { Enters M.ScenarioModel.table self.old (putBackCall (slip_of slip)) (spent result) self.new }
         ensures back { ComesBack result slip }
-        ensures model { self.new.model ≡ self.old.model }
     {
         let Slip { stub } = slip;
-        match put_back(&mut self.book, stub) {
-            Ok(()) => Ok(()),
-            Err(refusal) => Err((refusal, Slip { stub })),
-        }
+        put_back(&mut self.book, stub).map_err(|refusal| (refusal, Slip { stub }))
     }
 
     /// The market price of a contract.
     pub fn price(&mut self, contract: u64, price: u64) -> Result<(), Refusal>
-        ensures rules { Answered (M.ScenarioModel.table self.old.model) (open_ledger self.old) (priceCall contract price) (answered (λ _. accepted) result) (open_ledger self.new) }
-        ensures model { self.new.model ≡ self.old.model }
+        ensures { Enters M.ScenarioModel.table self.old (priceCall contract price) (answered (λ _. accepted) result) self.new }
     {
         let known = placed(&self.model, contract);
         set_price(&mut self.book, known, price)
@@ -89,16 +77,14 @@ impl<M: ScenarioModel> Session<M> {
 
     /// A client's settlement amount.
     pub fn cash(&mut self, client: u64, amount: i64) -> Result<(), Refusal>
-        ensures rules { Answered (M.ScenarioModel.table self.old.model) (open_ledger self.old) (cashCall client amount) (answered (λ _. accepted) result) (open_ledger self.new) }
-        ensures model { self.new.model ≡ self.old.model }
+        ensures { Enters M.ScenarioModel.table self.old (cashCall client amount) (answered (λ _. accepted) result) self.new }
     {
         set_cash(&mut self.book, client, amount)
     }
 
     /// The settlement window has passed: every settlement amount becomes 0.
     pub fn window(&mut self) -> Result<(), Refusal>
-        ensures rules { Answered (M.ScenarioModel.table self.old.model) (open_ledger self.old) windowCall (answered (λ _. accepted) result) (open_ledger self.new) }
-        ensures model { self.new.model ≡ self.old.model }
+        ensures { Enters M.ScenarioModel.table self.old windowCall (answered (λ _. accepted) result) self.new }
     {
         pass_window(&mut self.book)
     }

@@ -2,10 +2,10 @@
 ghost use Rattle.std.specs.Prelude.{◌≡◌};
 ghost use Rattle.orders.specs.Meant.{holder_of, carry_of_lot};
 ghost use Rattle.orders.specs.Replied.{answered};
-ghost use Rattle.rules.specs.Answers.{Answered, accepted, numbered};
+ghost use Rattle.rules.specs.Answers.{accepted, numbered};
 ghost use Rattle.rules.specs.Causes.{entered, opening, trader as traderCall, client as clientCall, price as priceCall, deposit as depositCall};
 ghost use Rattle.rules.specs.Ledger.{empty_ledger};
-ghost use Rattle.session.specs.Phases.{prepared, open_ledger};
+ghost use Rattle.session.specs.Phases.{prepared, open_ledger, Prepares};
 
 use crate::known::placed;
 use crate::phases::{Preparation, Session};
@@ -40,24 +40,21 @@ impl<M: ScenarioModel> Preparation<M> {
 
     /// A trader, with its intraday limit and its default count. It answers the trader's number.
     pub fn trader(&mut self, intraday: i64, defaults: i64) -> Result<u64, Refusal>
-        ensures rules { Answered (M.ScenarioModel.table self.old.model) (prepared self.old) (traderCall intraday defaults) (answered numbered result) (prepared self.new) }
-        ensures model { self.new.model ≡ self.old.model }
+        ensures { Prepares M.ScenarioModel.table self.old (traderCall intraday defaults) (answered numbered result) self.new }
     {
         enter_trader(&mut self.book, intraday, defaults)
     }
 
     /// A client of a trader. It answers the client's number.
     pub fn client(&mut self, trader: u64) -> Result<u64, Refusal>
-        ensures rules { Answered (M.ScenarioModel.table self.old.model) (prepared self.old) (clientCall trader) (answered numbered result) (prepared self.new) }
-        ensures model { self.new.model ≡ self.old.model }
+        ensures { Prepares M.ScenarioModel.table self.old (clientCall trader) (answered numbered result) self.new }
     {
         enter_client(&mut self.book, trader)
     }
 
     /// A client's position from yesterday, at yesterday's settlement price. It answers the trade's number.
     pub fn carry(&mut self, client: u64, lot: Lot) -> Result<u64, Refusal>
-        ensures rules { Answered (M.ScenarioModel.table self.old.model) (prepared self.old) (carry_of_lot client lot) (answered numbered result) (prepared self.new) }
-        ensures model { self.new.model ≡ self.old.model }
+        ensures { Prepares M.ScenarioModel.table self.old (carry_of_lot client lot) (answered numbered result) self.new }
     {
         let known = placed(&self.model, lot.contract);
         enter_carry(&mut self.book, client, lot, known)
@@ -65,8 +62,7 @@ impl<M: ScenarioModel> Preparation<M> {
 
     /// The market price of a contract.
     pub fn price(&mut self, contract: u64, price: u64) -> Result<(), Refusal>
-        ensures rules { Answered (M.ScenarioModel.table self.old.model) (prepared self.old) (priceCall contract price) (answered (λ _. accepted) result) (prepared self.new) }
-        ensures model { self.new.model ≡ self.old.model }
+        ensures { Prepares M.ScenarioModel.table self.old (priceCall contract price) (answered (λ _. accepted) result) self.new }
     {
         let known = placed(&self.model, contract);
         set_price(&mut self.book, known, price)
@@ -74,8 +70,7 @@ impl<M: ScenarioModel> Preparation<M> {
 
     /// Collateral for a holder.
     pub fn deposit(&mut self, holder: Holder, amount: i64) -> Result<(), Refusal>
-        ensures rules { Answered (M.ScenarioModel.table self.old.model) (prepared self.old) (depositCall (holder_of holder) amount) (answered (λ _. accepted) result) (prepared self.new) }
-        ensures model { self.new.model ≡ self.old.model }
+        ensures { Prepares M.ScenarioModel.table self.old (depositCall (holder_of holder) amount) (answered (λ _. accepted) result) self.new }
     {
         deposit(&mut self.book, holder, amount)
     }
@@ -85,17 +80,13 @@ impl<M: ScenarioModel> Preparation<M> {
         ensures ledger { open_ledger result ≡ entered (M.ScenarioModel.table self.model) (prepared self) opening }
         ensures model { result.model ≡ self.model }
     {
-        let Preparation { model, book } = self;
+        let Preparation { model, mut book } = self;
         let day = Day {
             model: &model,
             book: &book,
         };
         let needs = day.needs();
-        let mut opened = book;
-        enter_needs(&mut opened, &needs);
-        Session {
-            model,
-            book: opened,
-        }
+        enter_needs(&mut book, &needs);
+        Session { model, book }
     }
 }

@@ -90,7 +90,7 @@ impl<'a, M: ScenarioModel> Day<'a, M> {
         let mut found = no_figures();
         for number in 0..self.book.client_count() {
             if let Some(figures) = self.figures_if(trader, number) {
-                found.push(figures);
+                let _ = found.push(figures);
             }
         }
         found

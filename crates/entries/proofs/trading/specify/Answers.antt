@@ -1,4 +1,4 @@
-use Rattle.std.proofs.Common.{not, Result, sym, ap, ◌∙◌, arith}
+use Rattle.std.proofs.Common.{not, Result, sym, ap, ◌∙◌}
 use Rattle.std.proofs.lemmas.Bool.{lt-ltb}
 use Rattle.orders.specs.Replied.{answered}
 use Rattle.refusals.specs.declared.Refusal.{Refusal}
@@ -10,13 +10,10 @@ use Rattle.book.specs.declared.trades.standing.TradeCell.TheVariants.{Empty}
 use Rattle.book.specs.Ledgers.{ledger_in}
 use Rattle.book.specs.Means.{trade_in}
 use Rattle.book.specs.Tabled.{cells_in}
-use Rattle.book.proofs.Facts.{few_clients}
 use Rattle.book.proofs.Fills.{filled_at}
+use Rattle.book.proofs.Readings.{read_at}
 use Rattle.entries.proofs.Traded.{given_at, cell_read, specify_free, with_trades}
 use Rattle.entries.proofs.trading.specify.Goals as goal
-
-pub overflow_cast-client : goal.overflow_cast-client
-overflow_cast-client c = record { fits = omega (arith, few_clients c.args.book.now, c.in-Some-client.ensures.0) }
 
 pub returns : goal.returns
 returns c m =
@@ -24,9 +21,9 @@ returns c m =
     let l = ledger_in b in
     let xs = cells_in b.trades in
     let i = c.args.trade in
-    let t = c.in-Some.ensures in
-    let u = c.in-Some-client.ensures in
+    let t = read_at _ _ c.cell.result c.in_ok-cell.cell c.cell.ensures c.in_ok-cell.ensures.ok_part in
+    let u = read_at _ _ c.client.result c.in_ok-row.row c.client.ensures c.in_ok-row.ensures.ok_part in
     let is = ap trade_in c.in-Unspecified.is in
-    let at = given_at xs i t.0 c.in-Some.cell t.1 c.args.client c.change.result (cells_in c.change.new.self) (filled_at xs i Empty (cell_read xs i t.0).0 b.trades.filled) (ap (λ (x : Trade). x.standing) is) c.change.ensures.known in
+    let at = given_at xs i t.0 c.in_ok-cell.cell t.1 c.args.client c.change.result (cells_in c.change.new.self) (filled_at xs i Empty (cell_read xs i t.0).0 b.trades.filled) (ap (λ (x : Trade). x.standing) is) c.change.ensures.known in
     let free = specify_free m l i c.args.client (ap not (lt-ltb _ _ t.0)) (ap not (lt-ltb _ _ u.0)) (ap is_unspecified (sym t.1 ∙ is)) (ap (λ (x : Client). x.trader) (sym u.1) ∙ c.if-row-found.false ∙ ap (λ (x : Trade). x.trader) (sym is ∙ t.1)) in
     accepts m l (specify i c.args.client) _ _ free (ap (λ (r : Result (Unit {0}) Refusal). answered {X = Unit {0}} (λ _. accepted) r) at.0) (ap (with_trades l) at.1)

@@ -1,5 +1,5 @@
 use Rattle.std.proofs.Common.{◌≡◌, ℕ, true, List, ℤ, [], ◌∷◌, ◌++◌, ltb, map, length, get_or, sym, refl, ap, ◌∙◌, arith, w64, to_z, of_z}
-use Rattle.std.proofs.lemmas.Bool.{cond-true, lt-ltb}
+use Rattle.std.proofs.lemmas.Bool.{lt-ltb, ltb-true}
 use Rattle.std.proofs.lemmas.Int.{to_z-of_z}
 use Rattle.std.proofs.lemmas.List.{length-map}
 use Rattle.cells.specs.Listed.{listed}
@@ -18,7 +18,6 @@ loop-k-preserved g c =
     let e = to_z-of_z w64 c.greatest_among.result (record { sfits = c.greatest_among.type_inv }) ∙ c.greatest_among.ensures ∙ ap (λ (n : ℕ). greatest_below n (at (get_or rows l.k []))) c.scenarios.ensures in
     let same : length (listed l.greatest) ≡ length (map f (those_below l.k (λ _. true))) = ap length l.invariant in
     let room : ltb (length (listed l.greatest)) 8 ≡ true = lt-ltb (length (listed l.greatest)) 8 (omega (arith, same, length-map (those_below l.k (λ _. true)) f, length_those l.k (λ _. true), law.few_subportfolios, c.loop-k-test.true, c.subportfolios-k-end.ensures)) in
-    c.push.ensures.after
-    ∙ cond-true c.push.result _ _ (c.push.ensures.said ∙ room)
+    (c.push.ensures.room (ltb-true _ _ room)).1
     ∙ ap (λ (xs : List ℤ). xs ++ to_z w64 (of_z w64 c.greatest_among.result) ∷ []) l.invariant
     ∙ sym (those_yes f l.k (λ _. true) _ refl e)

@@ -1,31 +1,21 @@
-use Rattle.std.proofs.Common.{◌≡◌, ◌≤◌, ℤ, pos, ◌+ℤ◌, nat_abs, ◌≤ℤ◌, ◌∙◌, arith, w64, to_z, of_z}
+use Rattle.std.proofs.Common.{◌≡◌, ℤ, pos, ◌+ℤ◌, ◌≤ℤ◌, arith}
 use Rattle.std.proofs.lemmas.Int.{ints}
-use Rattle.figures.proofs.Sizes.{kept64}
 use Rattle.orders.specs.Meant.{holder_of}
 use Rattle.rules.specs.Ledger.{collateral_of}
-use Rattle.book.specs.declared.funds.Fund.{Fund}
 use Rattle.book.specs.Ledgers.{ledger_in}
 use Rattle.book.specs.Means.{slip_in}
-use Rattle.money.proofs.Paying.{nothing_held, room_for_back}
+use Rattle.money.proofs.Paying.{held_or_none, fits_fund, room_for_back}
 use Rattle.money.proofs.vaults.restored.Goals as goal
 
-kept : (f : Fund) → to_z w64 (of_z w64 f.amount) ≡ f.amount
-kept f = kept64 f.amount (omega (arith, ints, f.low, f.high))
-
-pub changed_by-requires : goal.changed_by-requires
-changed_by-requires c =
+pub unreachable-requires : goal.unreachable-requires
+unreachable-requires c =
+    let l = ledger_in c.args.book.now in
+    let h = holder_of c.args.stub.holder in
     let r = room_for_back c.args.book.now (slip_in c.args.stub) c.requires in
-    let k = by c.in-Some.held.amount (collateral_of (ledger_in c.args.book.now) (holder_of c.args.stub.holder)) c.args.stub.amount.amount _ c.in-Some.ensures.1 (kept c.args.stub.amount) c.in-Some.held.low c.args.stub.amount.low c.args.stub.amount.high r.1 in
-    record { small = k.0; low = k.1; high = k.2 }
+    let e = held_or_none l h c.collateral.result c.unwrap_or_default-held.result c.collateral.ensures c.unwrap_or_default-held.ensures in
+    let x = c.unwrap_or_default-held.result in
+    let a = c.args.stub.amount in
+    fits_fund (x.amount +ℤ a.amount) (omega (arith, ints, x.low, a.low)) (high x.amount (collateral_of l h) a.amount e r.1) c.in-None.ensures
   where
-    by : (u x a b : ℤ) → u ≡ x → b ≡ a → pos 0 ≤ℤ u → pos 0 ≤ℤ a → a ≤ℤ pos 1000000000000000 → (x +ℤ a) ≤ℤ pos 1000000000000000 → (nat_abs b ≤ 1000000000000000) × (pos 0 ≤ℤ (u +ℤ b)) × ((u +ℤ b) ≤ℤ pos 1000000000000000)
-    by u x a b p q l n k h = (omega (arith, ints), omega (arith, ints), omega (arith, ints))
-
-pub returns-in-Some : goal.returns-in-Some
-returns-in-Some c = c.changed_by.ensures ∙ (λ i. c.in-Some.ensures.1 i +ℤ kept c.args.stub.amount i)
-
-pub returns-in-None : goal.returns-in-None
-returns-in-None c = none _ _ (nothing_held (ledger_in c.args.book.now) (holder_of c.args.stub.holder) c.in-None.ensures)
-  where
-    none : (x a : ℤ) → x ≡ pos 0 → a ≡ x +ℤ a
-    none x a e = omega (arith, ints)
+    high : (u x a : ℤ) → u ≡ x → (x +ℤ a) ≤ℤ pos 1000000000000000 → (u +ℤ a) ≤ℤ pos 1000000000000000
+    high u x a e h = rw e h

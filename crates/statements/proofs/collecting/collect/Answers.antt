@@ -1,5 +1,5 @@
 use Rattle.std.proofs.Common.{ap, ◌∙◌}
-use Rattle.std.proofs.lemmas.Bool.{cond-true}
+use Rattle.std.proofs.lemmas.Bool.{ltb-true}
 use Rattle.cells.specs.Listed.{listed}
 use Rattle.figures.specs.Positions.{position_of, positions_of}
 use Rattle.book.specs.Filled.{is_filled}
@@ -27,9 +27,9 @@ loop-cell-preserved g c =
       | in-Some w ↦
           let x = w.in-Some.position in
           let q = some_if (p (trade_in cell)) (position_of x) (trade_in cell).position w.in-Some.ensures in
-          let room = w.push.ensures.said ∙ collect_room p cells l.cell-index cell c.loop-cell-test.true c.cell-item.is (listed l.found) c.requires.0 l.invariant in
+          let room = collect_room p cells l.cell-index cell c.loop-cell-test.true c.cell-item.is (listed l.found) c.requires.0 l.invariant in
           ap (λ f. positions_of (listed f)) w.found-is
-          ∙ collect_yes p cells l.cell-index cell c.loop-cell-test.true c.cell-item.is (listed l.found) (listed w.push.new.self) x q.0 q.1 (w.push.ensures.after ∙ cond-true w.push.result _ _ room) l.invariant
+          ∙ collect_yes p cells l.cell-index cell c.loop-cell-test.true c.cell-item.is (listed l.found) (listed w.push.new.self) x q.0 q.1 (w.push.ensures.room (ltb-true _ _ room)).1 l.invariant
       | in_default w ↦
           ap (λ f. positions_of (listed f)) w.found-is
           ∙ collect_no p cells l.cell-index cell c.loop-cell-test.true c.cell-item.is (listed l.found) (none_if (p (trade_in cell)) (trade_in cell).position w.in_default.ensures) l.invariant

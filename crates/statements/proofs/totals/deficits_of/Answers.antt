@@ -1,6 +1,6 @@
 use Rattle.std.proofs.Common.{◌≤◌, length, ap, ◌∙◌, arith, take_all}
 use Rattle.std.proofs.lemmas.Int.{ints}
-use Rattle.std.proofs.lemmas.Bool.{cond-true}
+use Rattle.std.proofs.lemmas.Bool.{ltb-true}
 use Rattle.cells.specs.Listed.{listed}
 use Rattle.deficits.specs.Summed.{amounts}
 use Rattle.figures.proofs.Sizes.{kept64}
@@ -15,8 +15,8 @@ loop-client-preserved c =
     let l = c.loop-client in
     let x = c.client-item.result in
     let few : length c.as_slice-client-items.result.now ≤ 128 = omega (arith, ap length c.as_slice-client-items.ensures.value, c.as_slice-client-items.ensures.few) in
-    let room = c.push.ensures.said ∙ lacks_room c.as_slice-client-items.result.now l.client-index x c.loop-client-test.true c.client-item.is (listed l.found) l.invariant few in
-    lacks_more c.as_slice-client-items.result.now l.client-index x c.loop-client-test.true c.client-item.is (listed l.found) l.invariant (listed c.push.new.self) _ (kept64 x.deficit (omega (arith, ints, x.low, x.high))) (c.push.ensures.after ∙ cond-true c.push.result _ _ room)
+    let room = lacks_room c.as_slice-client-items.result.now l.client-index x c.loop-client-test.true c.client-item.is (listed l.found) l.invariant few in
+    lacks_more c.as_slice-client-items.result.now l.client-index x c.loop-client-test.true c.client-item.is (listed l.found) l.invariant (listed c.push.new.self) _ (kept64 x.deficit (omega (arith, ints, x.low, x.high))) (c.push.ensures.room (ltb-true _ _ room)).1
 
 pub returns : goal.returns
 returns c =

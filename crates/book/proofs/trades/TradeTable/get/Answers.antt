@@ -1,21 +1,17 @@
-use Rattle.std.proofs.Common.{◌≡◌, ◌<◌, List, length, get_or, sym, ap, ◌∙◌, arith}
-use Rattle.std.proofs.lemmas.List.{get_or_default}
+use Rattle.std.proofs.Common.{◌≡◌, ℕ, ◌<◌, ◌≤◌, true, length, get_or, Some, None, Option, ap, ◌∙◌, MatchOption}
+use Rattle.std.proofs.lemmas.List.{get_or_read}
 use Rattle.book.specs.declared.trades.standing.TradeCell.{TradeCell}
 use Rattle.book.specs.declared.trades.standing.TradeCell.TheVariants.{Empty}
+use Rattle.book.specs.declared.trades.TradeTable.{TradeTable}
 use Rattle.book.specs.Filled.{is_filled}
 use Rattle.book.specs.Tabled.{cells_in}
-use Rattle.book.proofs.Fills.{length_cells, cell_at, filled_at}
+use Rattle.book.proofs.Fills.{filled_at}
 use Rattle.book.proofs.trades.TradeTable.get.Goals as goal
 
-pub returns-then-i-self : goal.returns-then-i-self
-returns-then-i-self c = omega (arith, length_cells c.args.self.now)
+-- a row that was read holds a trade
+read : (t : TradeTable) (i : ℕ) (o : Option TradeCell) → MatchOption o (length (cells_in t) ≤ i) (λ x. (i < length (cells_in t)) × (x ≡ get_or (cells_in t) i x)) → MatchOption o (length (cells_in t) ≤ i) (λ x. (i < length (cells_in t)) × (x ≡ get_or (cells_in t) i Empty) × (is_filled x ≡ true))
+read t i None h = h
+read t i (Some x) (l, e) = let q = get_or_read (cells_in t) i x l e Empty in (l, q, ap is_filled q ∙ filled_at (cells_in t) i Empty l t.filled)
 
 pub returns : goal.returns
-returns c =
-    let t = c.args.self.now in
-    let i = c.args.i in
-    let x = c.index-all-i.result in
-    let l : i < length (cells_in t) = omega (arith, length_cells t) in
-    let e : x ≡ get_or (cells_in t) i Empty =
-    c.index-all-i.is ∙ ap (λ (v : List TradeCell). get_or v i x) c.as_slice-all.ensures.0 ∙ get_or_default t.cells.at i x Empty (omega (arith, t.long, t.within)) ∙ sym (cell_at t i Empty c.if-i-self.false) in
-    (l, e, ap is_filled e ∙ filled_at (cells_in t) i Empty l t.filled)
+returns c = read c.args.self.now c.args.i c.get.result c.get.ensures

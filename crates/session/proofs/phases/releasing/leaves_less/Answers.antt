@@ -1,4 +1,4 @@
-use Rattle.std.proofs.Common.{◌≤◌, ℤ, pos, ◌-ℤ◌, nat_abs, ◌≤ℤ◌, ◌∙◌, arith, w64, SFits, to_z, of_z, rules}
+use Rattle.std.proofs.Common.{◌-ℤ◌, ◌∙◌, arith, w64, SFits, to_z, of_z, rules}
 use lib.Signed.{lt_z}
 use Rattle.std.specs.Int.{int_max}
 use Rattle.std.proofs.lemmas.Int.{ints, to_z-of_z}
@@ -10,10 +10,7 @@ returns c =
     let t = c.args.client in
     let n : SFits w64 t.opening_need = search rules in
     let p = kept64 t.collateral.amount (omega (arith, ints, t.collateral.low, t.collateral.high)) in
-    let q = to_z-of_z w64 c.args.amount c.ranges.amount in
-    let left = (λ i. to_z w64 (of_z w64 (p i -ℤ q i))) ∙ kept64 (t.collateral.amount -ℤ c.args.amount) (small t.collateral.amount c.args.amount t.collateral.low t.collateral.high c.requires) in
+    let q = kept64 c.args.amount.amount (omega (arith, ints, c.args.amount.low, c.args.amount.high)) in
+    let left = (λ i. to_z w64 (of_z w64 (p i -ℤ q i))) ∙ kept64 (t.collateral.amount -ℤ c.args.amount.amount) (omega (arith, ints, t.collateral.low, t.collateral.high, c.args.amount.low, c.args.amount.high)) in
     let most = to_z-of_z w64 c.max.result (record { sfits = c.max.type_inv }) ∙ c.max.ensures.value ∙ (λ i. int_max (to_z-of_z w64 t.opening_need n i) (to_z-of_z w64 c.args.need c.ranges.need i)) in
     λ i. lt_z (left i) (most i)
-  where
-    small : (x a : ℤ) → pos 0 ≤ℤ x → x ≤ℤ pos 1000000000000000 → nat_abs a ≤ 1000000000000000 → nat_abs (x -ℤ a) ≤ 1000000000000000000
-    small x a l h k = omega (arith, ints)

@@ -1,5 +1,5 @@
 use Rattle.std.proofs.Common.{◌≡◌, ◌<◌, map, length, ap, ◌∙◌, arith}
-use Rattle.std.proofs.lemmas.Bool.{cond-true}
+use Rattle.std.proofs.lemmas.Bool.{ltb-true}
 use Rattle.cells.specs.Listed.{listed}
 use Rattle.rules.specs.Answers.{client_figures}
 use Rattle.book.specs.Ledgers.{ledger_in}
@@ -25,9 +25,9 @@ loop-number-preserved g c =
       | in-Some w ↦
           let x = w.in-Some.figures in
           let q = some_if (is_of m l tr n) (figures_in x) (client_figures m l n) w.in-Some.ensures in
-          let room = w.push.ensures.said ∙ stated_room m l tr n found inv few in
+          let room = stated_room m l tr n found inv few in
           ap (λ f. map figures_in (listed f)) w.found-is
-          ∙ stated_yes m l tr n found inv (listed w.push.new.self) x q.0 q.1 (w.push.ensures.after ∙ cond-true w.push.result _ _ room)
+          ∙ stated_yes m l tr n found inv (listed w.push.new.self) x q.0 q.1 (w.push.ensures.room (ltb-true _ _ room)).1
       | in_default w ↦
           ap (λ f. map figures_in (listed f)) w.found-is
           ∙ stated_no m l tr n found inv (none_if (is_of m l tr n) (client_figures m l n) w.in_default.ensures)
