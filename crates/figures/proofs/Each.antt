@@ -8,7 +8,3 @@ module _ {A B : Type 0} (g : A → B) (p : B → Bool) where
   pub every_is : (xs : List A) → list_all (λ x. p (g x)) xs ≡ every p (map g xs)
   every_is [] = refl
   every_is (x ∷ xs) = ap (λ b. p (g x) && b) (every_is xs)
-
-  pub every_all : (xs : List A) → every p (map g xs) ≡ true → AllByRecursion (λ x. p (g x) ≡ true) xs
-  every_all [] e = tt
-  every_all (x ∷ xs) e = let b = and_parts (p (g x)) (every p (map g xs)) e in (b.0, every_all xs b.1)

@@ -5,6 +5,7 @@ pub mod Listing
 pub mod Meanings
 pub mod Placing
 pub mod Pricing
+pub mod Rounding
 pub mod Sizes
 pub mod Summing
 pub mod Chosen

@@ -16,14 +16,6 @@ low_same n o h c =
       | inr l ↦ subst Low (sym (get_or_past (replicate n o) c None (omega (arith, length-replicate n o)))) (omega arith)
     ]
 
--- after a price is set
-pub low_set : (ps : List (Option ℕ)) (i p : ℕ) → i < length ps → p ≤ 100000 → ((c : ℕ) → priced ps c ≤ 100000) → (c : ℕ) → priced (set ps i (Some p)) c ≤ 100000
-low_set ps i p l h old c =
-    elim (cases_eq c i) [
-      | inl e ↦ rw e (subst Low (sym (get_or-set_same ps i (Some p) None l)) h)
-      | inr ne ↦ subst Low (sym (get_or-set_other ps i c (Some p) None ne)) (old c)
-    ]
-
 -- a figure that was worked out could be, and is the one
 pub figure_some : (b : Bool) (x v : ℤ) → Some x ≡ figure_if b v → (b ≡ true) × (x ≡ v)
 figure_some true x v e = (refl, cc)

@@ -15,17 +15,8 @@ nat_abs_mul (negsuc a) (negsuc b) = refl
 pub product_within : (a b : ℤ) (m n : ℕ) → nat_abs a ≤ m → nat_abs b ≤ n → nat_abs (a *ℤ b) ≤ m * n
 product_within a b m n h k = subst (λ (x : ℕ). x ≤ m * n) (sym (nat_abs_mul a b)) (mul-le-mul h k)
 
-pub fits64 : (z : ℤ) → nat_abs z ≤ 1000000000000000000 → SFits w64 z
-fits64 z h = omega (arith, ints)
-
 pub kept64 : (z : ℤ) → nat_abs z ≤ 1000000000000000000 → to_z w64 (of_z w64 z) ≡ z
 kept64 z h = omega (arith, ints)
-
-pub kept32 : (z : ℤ) → nat_abs z ≤ 10000 → to_z w64 (of_z w64 (to_z w32 (of_z w32 z))) ≡ z
-kept32 z h = omega (arith, ints)
-
-pub product_kept : (q x : ℤ) → nat_abs q ≤ 10000 → nat_abs x ≤ 100000000 → to_z w64 (of_z w64 (to_z w32 (of_z w32 q))) *ℤ to_z w64 (of_z w64 x) ≡ q *ℤ x
-product_kept q x h k = λ i. kept32 q h i *ℤ kept64 x (omega arith) i
 
 pub product_64 : (a b : ℤ) → nat_abs a ≤ 1000000000000 → nat_abs b ≤ 1000000000000 → to_z w64 (of_z w64 a) *ℤ to_z w64 (of_z w64 b) ≡ a *ℤ b
 product_64 a b h k = λ i. kept64 a (omega arith) i *ℤ kept64 b (omega arith) i
@@ -37,18 +28,8 @@ low_high z n h k = omega (arith, ints)
 pub apart : (a b : ℕ) → a ≤ 100000 → b ≤ 100000 → nat_abs (pos a -ℤ pos b) ≤ 100000
 apart a b h k = omega (arith, ints)
 
-pub ticks_apart : (a b : ℕ) → a ≤ 100000 → b ≤ 100000 → to_z w64 (of_z w64 (to_z w64 a -ℤ to_z w64 b)) ≡ pos a -ℤ pos b
-ticks_apart a b h k = omega (arith, ints)
-
-pub shock_within : (z : ℤ) → negsuc 99999999 ≤ℤ z → z ≤ℤ pos 100000000 → nat_abs z ≤ 100000000
-shock_within z h k = omega (arith, ints)
-
 pub same32 : (z : ℤ) → nat_abs z ≤ 10000 → to_z w32 (of_z w32 z) ≡ z
 same32 z h = omega (arith, ints)
-
--- a product of what was passed is a product of what is meant
-pub product_of : (q x y r : ℤ) → nat_abs q ≤ 10000 → nat_abs x ≤ 100000000 → x ≡ y → r ≡ to_z w32 (of_z w32 q) *ℤ to_z w64 (of_z w64 x) → r ≡ q *ℤ y
-product_of q x y r h k e u = u ∙ (λ i. same32 q h i *ℤ (kept64 x (omega arith) ∙ e) i)
 
 -- a sum as the code has it
 added_is : (b v : ℤ) → nat_abs b ≤ 4000000000000000000 → nat_abs v ≤ 4000000000000000000 → to_z w64 (of_z w64 (b +ℤ to_z w64 (of_z w64 v))) ≡ b +ℤ v
@@ -74,14 +55,8 @@ added_fits {b} {s} v {m} {n} e h k u w = added_fits_is b v (omega arith) (omega 
 pub both_kept : (a b : ℤ) → nat_abs a ≤ 4000000000000000000 → nat_abs b ≤ 4000000000000000000 → to_z w64 (of_z w64 (to_z w64 (of_z w64 a) +ℤ to_z w64 (of_z w64 b))) ≡ a +ℤ b
 both_kept a b h k = omega (arith, ints)
 
-pub both_fit : (a b : ℤ) → nat_abs a ≤ 4000000000000000000 → nat_abs b ≤ 4000000000000000000 → SFits w64 (to_z w64 (of_z w64 a) +ℤ to_z w64 (of_z w64 b))
-both_fit a b h k = omega (arith, ints)
-
 pub most_more : (m i : ℕ) → m * i + m ≤ m * (i + 1)
 most_more m i = omega (arith, mul-add m i 1, mul-one m)
-
-pub most_within : (m i : ℕ) → m ≤ 11000000000000 → i ≤ 1024 → m * i ≤ 11264000000000000
-most_within m i h k = omega (arith, mul-le-mul h k)
 
 pub less_kept : (a b : ℤ) → nat_abs a ≤ 10240000000000000 → nat_abs b ≤ 10240000000000000 → to_z w64 (of_z w64 (to_z w64 (of_z w64 a) -ℤ to_z w64 (of_z w64 b))) ≡ a -ℤ b
 less_kept a b h k = omega (arith, ints)

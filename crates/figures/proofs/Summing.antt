@@ -5,9 +5,6 @@ use Rattle.std.proofs.lemmas.Int.{ints}
 use Rattle.std.proofs.lemmas.Bool.{cases_eq, cases_lt}
 use Rattle.figures.specs.Losses.{at, Added, Holds}
 
-pub added_none : (xs : List ℤ) (f : ℕ → ℤ) (b : ℕ) → Added xs xs 0 f b
-added_none xs f b = record { more = λ s l. absurd (omega arith); rest = λ s l. refl; small = λ s. omega arith }
-
 grows : (x y z : ℤ) (b : ℕ) → z ≡ x +ℤ y → nat_abs y ≤ b → nat_abs z ≤ nat_abs x + b
 grows x y z b e h = omega (arith, ints)
 
@@ -63,19 +60,9 @@ holds_zero xs n z =
 pub holds_blank : (n w k m : ℕ) → Holds (get_or (replicate n (replicate w (pos 0))) k []) m (λ _. pos 0) 0
 holds_blank n w k m = holds_zero (get_or (replicate n (replicate w (pos 0))) k []) m (blank_at n w k)
 
-pub holds_row : (w m : ℕ) → Holds (replicate w (pos 0)) m (λ _. pos 0) 0
-holds_row w m = holds_zero (replicate w (pos 0)) m (zero_at w)
-
 -- the first places of a row
 pub at_front : (xs : List ℤ) (n s : ℕ) → s < n → at (take n xs) s ≡ at xs s
 at_front xs n s l = get_or-take n xs s (pos 0) l
-
-pub at_front_small : (xs : List ℤ) (n b s : ℕ) → nat_abs (at xs s) ≤ b → nat_abs (at (take n xs) s) ≤ b
-at_front_small xs n b s h =
-    elim (cases_lt s n) [
-      | inl l ↦ rw (at_front xs n s l) h
-      | inr l ↦ rw (get_or_past (take n xs) s (pos 0) (omega (arith, length-take n xs))) (omega arith)
-    ]
 
 -- a row after something was added to its first places alone
 pub added_front : (xs ys : List ℤ) (n k : ℕ) (f : ℕ → ℤ) (b : ℕ) → length ys ≡ k → n ≡ k → Added (take n xs) ys k f b → Added xs (ys ++ drop n xs) k f b

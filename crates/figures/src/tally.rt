@@ -75,7 +75,7 @@ pub(crate) fn greatest_by_row<M: ScenarioModel>(
 ) -> Rows<i64, 8>
     ensures { listed result ≡ map (λ k. greatest_below ((M.ScenarioModel.table model.now).scenarios k) (at (slice_index_or rows.now k []))) (those_below (M.ScenarioModel.table model.now).subportfolios (λ _. true)) }
 {
-    let mut greatest = Rows::of([0; MOST_SUBPORTFOLIOS]);
+    let mut greatest = Rows::new();
     for k in 0..model.subportfolios() {
         let _ = greatest.push(greatest_among(&rows[k as usize], model.scenarios(k)));
     }

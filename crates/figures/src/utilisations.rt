@@ -21,13 +21,10 @@ impl fmt::Display for BelowZero {
 pub fn used(backing: u64, risk: u64) -> Option<u128>
     ensures { utilisation_of result ≡ utilisation backing risk }
 {
-    if backing > 0 {
-        Some((100 * risk as u128 + (backing as u128 - 1)) / backing as u128)
-    } else if risk > 0 {
-        None
-    } else {
-        Some(0)
+    if backing == 0 {
+        return (risk == 0).then_some(0);
     }
+    Some((100 * u128::from(risk)).div_ceil(u128::from(backing)))
 }
 
 /// The same of amounts that can be below 0, and are refused there.

@@ -26,10 +26,9 @@ impl Cash {
     pub fn new(amount: i64) -> Option<Cash>
         ensures { settled result ≡ figure_if (fair_cash amount) amount }
     {
-        if -MOST_CASH <= amount && amount <= MOST_CASH {
-            Some(Cash { amount })
-        } else {
-            None
+        if !(-MOST_CASH..=MOST_CASH).contains(&amount) {
+            return None;
         }
+        Some(Cash { amount })
     }
 }

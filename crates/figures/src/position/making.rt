@@ -10,15 +10,14 @@ impl Position {
     pub fn new(contract: u8, quantity: i32, price: u32) -> Option<Position>
         ensures { meant result ≡ position_if contract quantity price }
     {
-        let few = quantity != 0 && -MOST_QUANTITY <= quantity && quantity <= MOST_QUANTITY;
-        if few && 1 <= price && price <= MOST_PRICE {
-            Some(Position {
-                contract,
-                quantity,
-                price,
-            })
-        } else {
-            None
+        let few = quantity != 0 && (-MOST_QUANTITY..=MOST_QUANTITY).contains(&quantity);
+        if !few || !(1..=MOST_PRICE).contains(&price) {
+            return None;
         }
+        Some(Position {
+            contract,
+            quantity,
+            price,
+        })
     }
 }

@@ -21,7 +21,7 @@ impl Prices {
         ensures said { is_ok result ≡ fair_price price }
         ensures after { self.new.ticks ≡ (if fair_price price then slice_set self.old.ticks contract (Some price) else self.old.ticks) }
     {
-        if price < 1 || price > MOST_PRICE {
+        if !(1..=MOST_PRICE).contains(&price) {
             return Err(UnfairPrice);
         }
         let place = contract as usize;

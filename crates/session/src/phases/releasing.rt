@@ -31,13 +31,13 @@ fn leaves_less(client: Client, need: i64, amount: Fund) -> bool
 }
 
 // Whether what a slip hands out leaves its holder, which there is, short of its needs. Traders and the member have none.
-fn is_short<M: ScenarioModel>(model: &M, book: &Book, stub: Stub) -> bool
-    ensures { no_such_holder (ledger_in book.now) (holder_of stub.holder) ≡ false → result ≡ short (M.ScenarioModel.table model.now) (ledger_in book.now) (holder_of stub.holder) stub.amount.amount }
+fn is_short<M: ScenarioModel>(day: &Day<M>, stub: Stub) -> bool
+    ensures { no_such_holder (ledger_in day.now.book.now) (holder_of stub.holder) ≡ false → result ≡ short (M.ScenarioModel.table day.now.model.now) (ledger_in day.now.book.now) (holder_of stub.holder) stub.amount.amount }
 {
     let Holder::Client(client) = stub.holder else {
         return false;
     };
-    match (book.client(client), (Day { model, book }).need_of(client)) {
+    match (day.book.client(client), day.need_of(client)) {
         (Some(row), Some(need)) => leaves_less(row, need, stub.amount),
         _ => true,
     }
@@ -54,22 +54,21 @@ fn trader_of(book: &Book, holder: Holder) -> Option<u8>
 }
 
 // Whether a withdrawal that was tried, of a holder that there is, leaves a client short of its needs, or the holder's trader's limit below zero.
-fn is_uncovered<M: ScenarioModel>(model: &M, book: &Book, tried: &Book, stub: Stub) -> bool
-    ensures { no_such_holder (ledger_in book.now) (holder_of stub.holder) ≡ false → result ≡ (short (M.ScenarioModel.table model.now) (ledger_in book.now) (holder_of stub.holder) stub.amount.amount || int_lt (limit (M.ScenarioModel.table model.now) (ledger_in tried.now) (holders_trader (ledger_in book.now) (holder_of stub.holder))) (pos 0)) }
+fn is_uncovered<M: ScenarioModel>(day: &Day<M>, tried: &Day<M>, stub: Stub) -> bool
+    ensures { no_such_holder (ledger_in day.now.book.now) (holder_of stub.holder) ≡ false → result ≡ (short (M.ScenarioModel.table day.now.model.now) (ledger_in day.now.book.now) (holder_of stub.holder) stub.amount.amount || int_lt (limit (M.ScenarioModel.table tried.now.model.now) (ledger_in tried.now.book.now) (holders_trader (ledger_in day.now.book.now) (holder_of stub.holder))) (pos 0)) }
 {
-    let Some(trader) = trader_of(book, stub.holder) else {
+    let Some(trader) = trader_of(day.book, stub.holder) else {
         return true;
     };
-    let then = Day { model, book: tried };
-    is_short(model, book, stub) || then.limit_of(trader) < 0
+    is_short(day, stub) || tried.limit_of(trader) < 0
 }
 
 // Whether a cancellation that was tried lowers a trader's limit, and to below zero.
-fn is_sunk<M: ScenarioModel>(model: &M, book: &Book, tried: &Book, trader: u8) -> bool
-    ensures { result ≡ (int_lt (limit (M.ScenarioModel.table model.now) (ledger_in tried.now) trader) (limit (M.ScenarioModel.table model.now) (ledger_in book.now) trader) && int_lt (limit (M.ScenarioModel.table model.now) (ledger_in tried.now) trader) (pos 0)) }
+fn is_sunk<M: ScenarioModel>(day: &Day<M>, tried: &Day<M>, trader: u8) -> bool
+    ensures { result ≡ (int_lt (limit (M.ScenarioModel.table tried.now.model.now) (ledger_in tried.now.book.now) trader) (limit (M.ScenarioModel.table day.now.model.now) (ledger_in day.now.book.now) trader) && int_lt (limit (M.ScenarioModel.table tried.now.model.now) (ledger_in tried.now.book.now) trader) (pos 0)) }
 {
-    let left = (Day { model, book: tried }).limit_of(trader);
-    left < (Day { model, book }).limit_of(trader) && left < 0
+    let left = tried.limit_of(trader);
+    left < day.limit_of(trader) && left < 0
 }
 
 impl<M: ScenarioModel> Session<M> {
@@ -79,7 +78,15 @@ impl<M: ScenarioModel> Session<M> {
     {
         let mut tried = self.book;
         let trader = release(&mut tried, trade)?;
-        if is_sunk(&self.model, &self.book, &tried, trader) {
+        let day = Day {
+            model: &self.model,
+            book: &self.book,
+        };
+        let then = Day {
+            model: &self.model,
+            book: &tried,
+        };
+        if is_sunk(&day, &then, trader) {
             return Err(Refusal::NotCovered);
         }
         self.book = tried;
@@ -92,7 +99,15 @@ impl<M: ScenarioModel> Session<M> {
     {
         let mut tried = self.book;
         let stub = pay_out(&mut tried, holder, amount)?;
-        if is_uncovered(&self.model, &self.book, &tried, stub) {
+        let day = Day {
+            model: &self.model,
+            book: &self.book,
+        };
+        let then = Day {
+            model: &self.model,
+            book: &tried,
+        };
+        if is_uncovered(&day, &then, stub) {
             return Err(Refusal::NotCovered);
         }
         self.book = tried;

@@ -7,11 +7,6 @@ use Rattle.figures.specs.Sums.{greatest_below, those_below}
 use Rattle.figures.proofs.Listing.{those_yes, length_those}
 use Rattle.figures.proofs.tally.greatest_by_row.Goals as goal
 
-pub greatest_among-requires : goal.greatest_among-requires
-greatest_among-requires g c =
-    let law = g.met.M.ScenarioModel.lawful c.args.model.now in
-    (omega (arith, c.scenarios.ensures, law.some_scenario c.loop-k.k (omega (arith, c.loop-k-test.true, c.subportfolios-k-end.ensures))), omega (arith, c.scenarios.ensures, law.few_scenarios c.loop-k.k))
-
 pub loop-k-preserved : goal.loop-k-preserved
 loop-k-preserved g c =
     let m = g.M.ScenarioModel.table c.args.model.now in

@@ -1,18 +1,9 @@
-use Rattle.std.proofs.Common.{◌≡◌, ◌≤◌, List, length, ℤ, pos, ◌+ℤ◌, nat_abs, sym, ap, ◌∙◌, subst, arith, take_all}
+use Rattle.std.proofs.Common.{◌≡◌, ◌≤◌, List, length, ℤ, pos, ◌+ℤ◌, nat_abs, sym, ap, ◌∙◌, subst, arith}
 use Rattle.cells.specs.Listed.{listed}
 use Rattle.figures.specs.Losses.{at}
-use Rattle.figures.specs.Sums.{total}
 use Rattle.figures.proofs.Adding.{sum_more}
-use Rattle.figures.proofs.Sizes.{added, added_small, added_fits}
+use Rattle.figures.proofs.Sizes.{added, added_small}
 use Rattle.figures.proofs.tally.sum_of.Goals as goal
-
-pub overflow_add-sum : goal.overflow_add-sum
-overflow_add-sum c =
-    let l = c.loop-figure in
-    let xs = c.as_slice-figure-items.result.now in
-    let long : length xs ≡ length (listed c.args.figures.now) = ap length c.as_slice-figure-items.ensures.value in
-    let small : nat_abs (at xs l.figure-index) ≤ 11264000000000000 = subst (λ (ys : List ℤ). nat_abs (at ys l.figure-index) ≤ 11264000000000000) (sym c.as_slice-figure-items.ensures.value) (c.requires l.figure-index) in
-    added_fits (at xs l.figure-index) l.sum-is l.invariant.0 small (omega arith) (omega arith)
 
 pub loop-figure-preserved : goal.loop-figure-preserved
 loop-figure-preserved c =
@@ -24,8 +15,3 @@ loop-figure-preserved c =
     let e = added (at xs i) l.sum-is l.invariant.0 small (omega arith) (omega arith) in
     let s = added_small (at xs i) l.sum-is l.invariant.0 small (omega arith) (omega arith) in
     (omega (arith, s), e ∙ ap (λ z. z +ℤ at xs i) l.invariant.1 ∙ sym (sum_more (λ (x : ℤ). x) xs i (pos 0) c.loop-figure-test.true))
-
-pub returns : goal.returns
-returns c =
-    c.loop-figure.invariant.1
-    ∙ ap (total (λ (x : ℤ). x)) (take_all c.loop-figure.figure-index c.as_slice-figure-items.result.now c.loop-figure-test.false ∙ c.as_slice-figure-items.ensures.value)

@@ -1,8 +1,8 @@
 use Rattle.std.proofs.Common.{◌≡◌, ◌≤◌, length, ap, ◌∙◌, arith, w64, SFits, rules}
 use Rattle.std.proofs.lemmas.Int.{to_z-of_z}
 use Rattle.std.proofs.lemmas.Bool.{both_ways}
-use Rattle.cells.proofs.Rowed.{length_listed}
 use Rattle.cells.specs.Listed.{listed}
+use Rattle.cells.proofs.Rowed.{length_listed}
 use Rattle.deficits.specs.Summed.{amounts, summable}
 use Rattle.figures.specs.Sums.{total_greatest}
 use Rattle.statements.proofs.Lacks.{lacks, lacks_summable}

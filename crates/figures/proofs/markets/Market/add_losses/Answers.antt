@@ -4,16 +4,8 @@ use Rattle.figures.specs.Figures.{moves}
 use Rattle.figures.specs.Losses.{Added}
 use Rattle.figures.specs.Positions.{position_of}
 use Rattle.figures.proofs.Sizes.{kept64}
-use Rattle.figures.proofs.Summing.{at_front_small, added_front}
+use Rattle.figures.proofs.Summing.{added_front}
 use Rattle.figures.proofs.markets.Market.add_losses.Goals as goal
-
-pub add_losses-requires : goal.add_losses-requires
-add_losses-requires g c =
-    let row = c.args.row.now in
-    let n = c.scenarios-scenarios.result in (
-      omega (arith, length-take n row, c.requires.0),
-      (rw (kept64 c.args.mark (omega (arith, c.requires.1.0))) c.requires.1.0, λ s. at_front_small row n 1000000000000000000 s (c.requires.1.1 s)),
-    )
 
 pub returns : goal.returns
 returns g c =

@@ -1,10 +1,10 @@
-use Rattle.std.proofs.Common.{◌*◌, ◌≤◌, [], get_or, refl, ◌∙◌, mul-le-mul_left, arith}
+use Rattle.std.proofs.Common.{◌*◌, ◌≤◌, [], get_or, refl, ◌∙◌, arith}
 use Rattle.figures.specs.Figures.{mark}
 use Rattle.figures.specs.Losses.{loses_in, losses_in}
 use Rattle.figures.specs.Markets.{market}
-use Rattle.figures.specs.Positions.{position_of, positions_of}
-use Rattle.figures.proofs.Adding.{total_next, total_all}
-use Rattle.figures.proofs.Sizes.{added, added_small, added_fits, most_more, most_within}
+use Rattle.figures.specs.Positions.{position_of}
+use Rattle.figures.proofs.Adding.{total_next}
+use Rattle.figures.proofs.Sizes.{added, added_small, most_more}
 use Rattle.figures.proofs.Summing.{holds_blank, holds_more, holds_same}
 use Rattle.figures.proofs.markets.Market.tally_of.Goals as goal
 
@@ -15,18 +15,6 @@ loop-position-init g c =
       refl,
       λ k. holds_same _ (m.scenarios k) _ (losses_in m (market c.args.self.now.prices.now) g.C.Counting.lost [] k) 0 _ (holds_blank 8 64 k (m.scenarios k)) (λ s. refl) (omega arith),
     )
-
-pub count-gained-requires : goal.count-gained-requires
-count-gained-requires g c =
-    let l = c.loop-position in
-    let few : l.position-index ≤ 1024 = omega (arith, c.args.positions.few) in
-    λ k s. omega (arith, (l.invariant.2 k).small s, most_within g.C.Counting.most l.position-index g.met.C.Counting.few few)
-
-pub overflow_add-gained : goal.overflow_add-gained
-overflow_add-gained g c =
-    let l = c.loop-position in
-    let few : l.position-index ≤ 1024 = omega (arith, c.args.positions.few) in
-    added_fits c.count-gained.result l.gained-is l.invariant.0 c.count-gained.ensures.small (omega arith) (omega arith)
 
 pub loop-position-preserved : goal.loop-position-preserved
 loop-position-preserved g c =
@@ -45,17 +33,3 @@ loop-position-preserved g c =
       e ∙ total_next position_of (mark m μ) xs i x _ v c.loop-position-test.true c.position-item.is l.invariant.1 c.count-gained.ensures.value,
       λ k. holds_more (get_or l.rows k []) _ (m.scenarios k) _ (λ s. loses_in m μ g.C.Counting.lost k s (position_of x)) _ (most * i) most _ (l.invariant.2 k) (c.count-gained.ensures.losses k) (λ s. total_next position_of (loses_in m μ g.C.Counting.lost k s) xs i x _ _ c.loop-position-test.true c.position-item.is refl refl) (most_more most i),
     )
-
-pub returns : goal.returns
-returns g c =
-    let m = g.M.ScenarioModel.table c.args.self.now.model.now in
-    let μ = market c.args.self.now.prices.now in
-    let most = g.C.Counting.most in
-    let xs = c.args.positions.all.now in
-    let l = c.loop-position in
-    let few : l.position-index ≤ 1024 = omega (arith, c.args.positions.few, l.auto.position-index-end) in
-    record {
-      gained = total_all position_of (mark m μ) xs l.position-index _ c.loop-position-test.false l.invariant.1;
-      small = omega (arith, l.invariant.0);
-      losses = λ k. holds_same (get_or l.rows k []) (m.scenarios k) _ (losses_in m μ g.C.Counting.lost (positions_of xs) k) (most * l.position-index) _ (l.invariant.2 k) (λ s. total_all position_of (loses_in m μ g.C.Counting.lost k s) xs l.position-index _ c.loop-position-test.false refl) (mul-le-mul_left most few);
-    }
