@@ -168,7 +168,7 @@ mod tests {
 
     #[test]
     fn of_equal_ones_the_lower_client_goes_first(rt: HostRuntime) -> Result<(), Fail> {
-        let mut cells = [Deficit::default(); 2];
+        let mut cells = [lacking(0, 0); 2];
         let picked = pick_greatest(
             &[lacking(7, 9), lacking(8, 5), lacking(7, 3)],
             &mut cells,
