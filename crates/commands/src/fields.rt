@@ -87,6 +87,7 @@ fn lot(text: &str) -> Option<Lot>
 }
 
 /// The number and the lot in the words of a line that has just five.
+// Kept beside `two`: a lot is no word, but four.
 pub(crate) fn number_and_lot(text: &str) -> Option<(u64, Lot)>
     ensures { result ≡ said.number_and_lot (words text.now) }
 {

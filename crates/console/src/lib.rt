@@ -13,7 +13,7 @@ pub use numbers::number;
 pub use words::{is_blank, next_word, only_word};
 
 /// What a line asks.
-#[derive(Clone, Copy)]
+#[derive(Clone, Copy, PartialEq, Eq, Debug)]
 pub enum Request<'a> {
     /// Nothing: the line is blank or a comment.
     Nothing,
@@ -47,10 +47,10 @@ fn is_comment(line: &str) -> bool
 fn request_by_words(line: &str) -> Request<'_>
     ensures { meant result ≡ asked_by (words line.now) }
 {
-    match next_word(line) {
-        Some((verb, rest)) => request_for(verb, rest).unwrap_or(Request::Unreadable),
-        None => Request::Nothing,
-    }
+    let Some((verb, rest)) = next_word(line) else {
+        return Request::Nothing;
+    };
+    request_for(verb, rest).unwrap_or(Request::Unreadable)
 }
 
 /// What a line asks. Spaces separate its words; a line that is blank, or that begins with `#`, asks nothing.

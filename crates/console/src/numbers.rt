@@ -17,10 +17,8 @@ pub fn number(word: &str) -> Option<u64>
     ensures { result ≡ decimal word.now }
 {
     if word.is_empty() {
-        None
-    } else if has_digits_only(word) {
-        Some(word.parse::<u64>().unwrap_or(u64::MAX))
-    } else {
-        None
+        return None;
     }
+    let number = word.parse::<u64>().unwrap_or(u64::MAX);
+    has_digits_only(word).then_some(number)
 }

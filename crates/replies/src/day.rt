@@ -9,7 +9,7 @@ use lines::{Line, Shown};
 use refusals::Refusal;
 
 /// The answer to an order.
-#[derive(Clone, Copy)]
+#[derive(Clone, Copy, PartialEq, Eq, Debug)]
 pub enum Reply {
     /// A trader was entered under a number.
     Trader(u64),

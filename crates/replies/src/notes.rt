@@ -6,7 +6,7 @@ ghost use Rattle.replies.specs.Notes.{misplaced_note, unreadable_note};
 use std::fmt;
 
 /// Why a line cannot be carried out where it stands.
-#[derive(Clone, Copy)]
+#[derive(Clone, Copy, PartialEq, Eq, Debug)]
 pub enum Misplaced {
     /// The call belongs to the session, which is not open.
     NotOpen,
@@ -21,7 +21,7 @@ pub enum Misplaced {
 }
 
 /// Why a line, or the file that it names, cannot be read.
-#[derive(Clone, Copy)]
+#[derive(Clone, Copy, PartialEq, Eq, Debug)]
 pub enum Unreadable {
     /// Not a line of this program.
     NoLine,

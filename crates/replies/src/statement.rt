@@ -8,7 +8,7 @@ ghost use Rattle.replies.specs.Statements.{margins_text, violation_text};
 use lines::{Line, Shown};
 
 /// The figures of a client.
-#[derive(Clone, Copy)]
+#[derive(Clone, Copy, PartialEq, Eq, Debug)]
 pub struct ClientFigures<'a> {
     /// The client's number.
     pub client: u64,
@@ -23,7 +23,7 @@ pub struct ClientFigures<'a> {
 }
 
 /// A line of a statement.
-#[derive(Clone, Copy)]
+#[derive(Clone, Copy, PartialEq, Eq, Debug)]
 pub enum StatementLine<'a> {
     /// Whose statement it is.
     Trader(u64),

@@ -11,6 +11,7 @@ fn deficits_of(owed: &[i64]) -> [Deficit; MOST_DEFICITS]
     requires { length owed.now ≤ 128 }
     ensures { amounts (take (length owed.now) result) ≡ owed.now }
 {
+    // Kept a loop: it needs no answer, and what `array::from_fn` ensures needs a lemma that is longer than it.
     let mut deficits = [Deficit {
         amount: 0,
         client: 0,
@@ -33,5 +34,5 @@ pub(crate) fn greatest_of(owed: &[i64], count: i64) -> Option<i64>
         return None;
     }
     let deficits = deficits_of(owed);
-    sum_of_greatest(&deficits[0..owed.len()], count as usize)
+    sum_of_greatest(&deficits[..owed.len()], count as usize)
 }

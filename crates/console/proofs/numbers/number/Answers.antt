@@ -1,9 +1,10 @@
-use Rattle.console.proofs.Digits.{decimal_read, decimal_none}
+use Rattle.std.proofs.Common.{◌∙◌}
+use Rattle.std.specs.Bool.{then_some}
+use Rattle.console.proofs.Digits.{decimal_read}
 use Rattle.console.proofs.numbers.number.Goals as goal
 
-pub returns-then-has_digits_only : goal.returns-then-has_digits_only
-returns-then-has_digits_only c =
-    decimal_read c.args.word.now c.parse.result _ c.if-is_empty.ensures c.if-has_digits_only.ensures c.parse.ensures.value.0 c.unwrap_or.ensures
-
-pub returns-else-has_digits_only : goal.returns-else-has_digits_only
-returns-else-has_digits_only c = decimal_none c.args.word.now c.if-is_empty.ensures c.if-has_digits_only.ensures
+pub returns : goal.returns
+returns c =
+    c.then_some.ensures
+    ∙ (λ i. then_some (c.has_digits_only.ensures i) (c.unwrap_or-number.ensures i))
+    ∙ decimal_read c.args.word.now c.parse.result c.if-is_empty.ensures c.parse.ensures.value.0
