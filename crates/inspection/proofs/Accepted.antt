@@ -1,12 +1,12 @@
 -- What is known of a file that no cause refuses.
-use Rattle.std.proofs.Common.{◌≡◌, ℕ, ◌+◌, ◌<◌, ◌≤◌, Bool, true, false, cond, not, leb, List, ℤ, pos, negsuc, nat_abs, is_some, Some, None, Option, sym, refl, ap, ◌∙◌, arith}
+use Rattle.std.proofs.Common.{◌≡◌, ℕ, ◌+◌, ◌<◌, ◌≤◌, true, false, not, leb, List, ℤ, pos, nat_abs, is_some, None, sym, ap, arith}
+use Rattle.std.proofs.lemmas.Int.{ints}
 use Rattle.std.proofs.lemmas.Bool.Decides.{nat_tests}
-use Rattle.std.proofs.lemmas.Bool.{false≢true, and_parts, leb-true, not-false}
+use Rattle.std.proofs.lemmas.Bool.{and_parts, leb-true}
 use Rattle.layout.specs.Fields.{kind, contracts, scenarios, factors, payoff, number, second, exposure, factor_shock, series_shock}
 use Rattle.inspection.specs.Tests.{every, within}
 use Rattle.inspection.specs.Causes.{wrong_kind, right_counts, right_numbers, right_record, factors_within, series_within, right_fields, unmoved_first, sheet_cause, accepted}
 use Rattle.inspection.proofs.Everies.{every_at}
-use Rattle.inspection.proofs.Withins.{within_is}
 
 pub accepted_from_none : (b : List ℕ) → None ≡ sheet_cause b → accepted b ≡ true
 unfolding accepted
@@ -20,29 +20,22 @@ pub record Passes (b : List ℕ) : Type 0 where
   pub fields : right_fields b ≡ true
   pub first : unmoved_first b ≡ true
 
--- a chain of tests answers nothing only if none holds
-step : (t : Bool) (n : ℕ) (rest : Option ℕ) → not (is_some (cond t (Some n) rest)) ≡ true → (t ≡ false) × (not (is_some rest) ≡ true)
-step true n rest e = absurd (false≢true e)
-step false n rest e = (refl, e)
-
 pub passes : (b : List ℕ) → accepted b ≡ true → Passes b
 unfolding accepted sheet_cause
-passes b e =
-    let p1 = step _ 1 _ e in
-    let p2 = step _ 2 _ p1.1 in
-    let p3 = step _ 3 _ p2.1 in
-    let p4 = step _ 4 _ p3.1 in
-    let p5 = step _ 5 _ p4.1 in
-    let p6 = step _ 6 _ p5.1 in
-    let p7 = step _ 7 _ p6.1 in
-    record { kind = p2.0; counts = not-false _ p3.0; numbers = not-false _ p5.0; fields = not-false _ p6.0; first = not-false _ p7.0 }
+passes b e = record {
+  kind = grind arith;
+  counts = grind arith;
+  numbers = grind arith;
+  fields = grind arith;
+  first = grind arith;
+}
 
 size_within : (n : ℕ) (x : ℤ) → within n x ≡ true → nat_abs x ≤ n
-size_within n x h = leb-true _ _ (within_is n x ∙ h)
+unfolding within
+size_within n x h = grind (arith, ints, nat_tests)
 
 no_size : (x : ℤ) → nat_abs x ≤ 0 → x ≡ pos 0
-no_size (pos n) h = ap pos (omega arith)
-no_size (negsuc n) h = absurd (omega arith)
+no_size x h = omega (arith, ints)
 
 module _ (b : List ℕ) (p : Passes b) where
   pub some_contract : 1 ≤ contracts b

@@ -33,6 +33,7 @@ const MOST_SHOCK: u32 = 100_000_000;
 const MOST_PAYOFF: u32 = 100_000_000;
 
 // Whether an amount lies within a limit of zero.
+#[tactic(auto, unfolding(crate::specs::Tests::within))]
 fn is_within(limit: u32, amount: i32) -> bool
     ensures { result ≡ within limit amount }
 {
