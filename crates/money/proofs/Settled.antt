@@ -1,24 +1,18 @@
 -- Rows of clients that are changed one after the other, and settlement amounts. Assumes nothing.
-use Rattle.std.proofs.Common.{◌≡◌, ℕ, zero, suc, ◌+◌, ◌-◌, ◌<◌, ◌≤◌, true, false, not, List, [], ◌∷◌, ◌++◌, map, length, get_or, take, drop, set, ℤ, pos, neg_ℤ, nat_abs, None, sym, refl, ap, ◌∙◌, add-one, arith}
+use Rattle.std.proofs.Common.{◌≡◌, ℕ, zero, suc, ◌+◌, ◌-◌, ◌<◌, ◌≤◌, true, false, not, List, [], ◌∷◌, ◌++◌, length, get_or, take, drop, set, ℤ, pos, neg_ℤ, nat_abs, None, sym, refl, ap, ◌∙◌, add-one, arith}
 use lib.Signed.{lt_z}
-use Rattle.std.proofs.lemmas.List.{take_all, drop_all, append-nil, get_or-append_right, get_or-drop, length-take-le}
+use Rattle.std.proofs.lemmas.List.{get_or-append_right, get_or-drop, length-take-le}
 use Rattle.std.proofs.lemmas.Int.{ints}
 use Rattle.std.proofs.lemmas.Bool.{and_from, leb-true}
 use Rattle.figures.specs.Markets.{fair_cash}
 use Rattle.scenario.specs.Table.{ScenarioTable}
 use Rattle.rules.specs.Bounds.{most_cash}
 use Rattle.rules.specs.Ledger.{Ledger, Client}
-use Rattle.rules.specs.Causes.{cash, window, cause, within, opened, no_such_client}
+use Rattle.rules.specs.Causes.{cash, cause, within, opened, no_such_client}
 use Rattle.rules.proofs.Given.{length_opened}
 use Rattle.rules.proofs.Rows.{skip}
 
 -- ---- all rows, one after the other
-
-pub all_changed : (f : Client → Client) (xs ys : List Client) (n : ℕ) → length xs ≤ n → ys ≡ map f (take n xs) ++ drop n xs → ys ≡ map f xs
-all_changed f xs ys n h e = e ∙ (λ i. map f (take_all n xs h i) ++ drop_all n xs h i) ∙ append-nil (map f xs)
-
-pub all_opened : (f : ℕ → ℤ) (xs ys : List Client) (n : ℕ) → length xs ≤ n → ys ≡ opened f 0 (take n xs) ++ drop n xs → ys ≡ opened f 0 xs
-all_opened f xs ys n h e = e ∙ (λ i. opened f 0 (take_all n xs h i) ++ drop_all n xs h i) ∙ append-nil (opened f 0 xs)
 
 -- a client with an opening need
 abbrev pub with_need : ℤ → Client → Client
@@ -60,6 +54,3 @@ fair_is_within z e =
 
 pub cash_free : (m : ScenarioTable) (l : Ledger) (c : ℕ) (v : ℤ) → no_such_client l c ≡ false → fair_cash v ≡ true → l.passed ≡ false → cause m l (cash c v) ≡ None
 cash_free m l c v a b d = skip _ 10 _ _ a (skip _ 12 _ _ (ap not (fair_is_within v b)) (skip _ 20 _ _ d refl))
-
-pub window_free : (m : ScenarioTable) (l : Ledger) → l.passed ≡ false → cause m l window ≡ None
-window_free m l e = skip _ 20 _ _ e refl

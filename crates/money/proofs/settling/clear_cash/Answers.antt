@@ -6,7 +6,6 @@ use Rattle.cells.specs.Listed.{listed}
 use Rattle.rules.specs.Causes.{with_cash}
 use Rattle.book.specs.declared.clients.Client.{Client}
 use Rattle.book.specs.Means.{client_in, clients_in}
-use Rattle.money.proofs.Settled.{all_changed}
 use Rattle.money.proofs.Written.{row_changed, row_means, length_lent}
 use Rattle.money.proofs.settling.clear_cash.Goals as goal
 use Rattle.money.proofs.settling.clear_cash.Goals.{in-Some, in_default}
@@ -28,6 +27,3 @@ loop-place-preserved c =
           )
       | in_default w ↦ absurd (omega (arith, w.in_default.ensures.value, inv.1, c.loop-place-test.true, c.len-place-end.ensures.value))
     ]
-
-pub returns : goal.returns
-returns c = all_changed (with_cash (pos 0)) (clients_in c.args.clients.now) (clients_in c.loop-place.clients) c.loop-place.place (omega (arith, length-map (listed c.args.clients.now) client_in, c.loop-place-test.false, c.len-place-end.ensures.value)) c.loop-place.invariant.0

@@ -4,7 +4,7 @@ use Rattle.cells.specs.declared.rows.Rows.{Rows}
 use Rattle.cells.specs.Listed.{listed}
 use Rattle.book.specs.declared.clients.Client.{Client}
 use Rattle.book.specs.Means.{client_in, clients_in}
-use Rattle.money.proofs.Settled.{all_opened, opened_more, with_need}
+use Rattle.money.proofs.Settled.{opened_more, with_need}
 use Rattle.money.proofs.Written.{row_changed, row_means, length_lent}
 use Rattle.money.proofs.settling.set_needs.Goals as goal
 use Rattle.money.proofs.settling.set_needs.Goals.{in-Some, in_default}
@@ -26,6 +26,3 @@ loop-place-preserved c =
           )
       | in_default w ↦ absurd (omega (arith, w.in_default.ensures.value, inv.1, c.loop-place-test.true, c.len-place-end.ensures.value))
     ]
-
-pub returns : goal.returns
-returns c = all_opened (λ (n : ℕ). get_or c.args.needs.now n (pos 0)) (clients_in c.args.clients.now) (clients_in c.loop-place.clients) c.loop-place.place (omega (arith, length-map (listed c.args.clients.now) client_in, c.loop-place-test.false, c.len-place-end.ensures.value)) c.loop-place.invariant.0

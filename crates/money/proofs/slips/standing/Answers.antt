@@ -1,6 +1,6 @@
 use Rattle.std.proofs.Common.{◌*◌, ◌≤◌, List, map, get_or, take, ℤ, ◌+ℤ◌, sym, ap, ◌∙◌, arith}
-use Rattle.std.proofs.lemmas.List.{map_more, take_all}
-use Rattle.figures.proofs.Sizes.{added, added_small, added_fits}
+use Rattle.std.proofs.lemmas.List.{map_more}
+use Rattle.figures.proofs.Sizes.{added, added_small}
 use Rattle.orders.specs.Meant.{holder_of}
 use Rattle.rules.specs.Causes.{amounts_of}
 use Rattle.rules.specs.Ledger.{Slip}
@@ -30,15 +30,3 @@ loop-slip-preserved c =
       omega (arith, added_small v l.sum-is l.invariant.1 p.small (omega (arith, few c)) (omega arith)),
       omega (arith, c.loop-slip-test.true),
     )
-
-pub overflow_add-sum : goal.overflow_add-sum
-overflow_add-sum c =
-    let l = c.loop-slip in
-    added_fits c.part_of-sum.result l.sum-is l.invariant.1 c.part_of-sum.ensures.small (omega (arith, few c)) (omega arith)
-
-pub returns : goal.returns
-returns c =
-    record {
-      value = c.loop-slip.invariant.0 ∙ ap (λ (v : List Stub). amounts_of (map slip_in v) (holder_of c.args.holder)) (take_all _ _ c.loop-slip-test.false);
-      small = omega (arith, c.loop-slip.invariant.1, c.loop-slip.invariant.2, c.requires);
-    }
