@@ -1,5 +1,5 @@
 -- What reading a word as a number of 64 bits gives. Assumes nothing.
-use Rattle.std.proofs.Common.{◌≡◌, ℕ, ◌+◌, ◌^◌, ◌<◌, ◌≤◌, Bool, true, false, cond, ◌&&◌, eqb, ltb, List, [], ◌∷◌, length, get_or, drop, ℤ, pos, neg_ℤ, Some, None, Ok, Err, Decides, Result, sym, refl, ap, ◌∙◌, inl, inr, arith, w64}
+use Rattle.std.proofs.Common.{◌≡◌, ℕ, ◌+◌, ◌^◌, ◌<◌, ◌≤◌, Bool, true, false, cond, ◌&&◌, eqb, ltb, List, [], ◌∷◌, length, get_or, drop, ℤ, pos, neg_ℤ, Some, None, Ok, Err, Decides, Option, Result, sym, refl, ap, ◌∙◌, inl, inr, arith, w64}
 use Rattle.std.specs.Result.{OkIff, result_ok}
 use Rattle.std.specs.Option.{option_map}
 use Rattle.std.specs.Str.Parse.{digits_value, ParsesUnsigned, ParsesSigned}
@@ -33,14 +33,15 @@ unfolding numeral
 plus_none [] limit e = absurd (omega arith)
 plus_none (b ∷ w) limit e = ap (λ (t : Bool). cond (((t && all_ascii_digits w) && ltb 0 (length (b ∷ w))) && ltb (digits_value 10 (b ∷ w)) limit) (Some (digits_value 10 (b ∷ w))) None) (ap is_ascii_digit e)
 
-pub whole_plus : (w : List ℕ) → get_or w 0 0 ≡ 43 → None ≡ whole w
-whole_plus w e = sym (plus_none w (2 ^ 64) e)
-
-pub whole_read : {E : Type 0} (w : List ℕ) (r : Result ℕ E) → (get_or w 0 0 ≡ 43 → ⊥) → ParsesUnsigned 64 10 w r → result_ok r ≡ whole w
+pub whole_read : {E : Type 0} (w : List ℕ) (o : Option ℕ) → (get_or w 0 0 ≡ 43 → o ≡ None) → ((get_or w 0 0 ≡ 43 → ⊥) → (r : Result ℕ E) × ParsesUnsigned 64 10 w r × (o ≡ result_ok r)) → o ≡ whole w
 unfolding numeral
-whole_read w r plain h = read r _ _ _ (parse_plain own 64 w r h plain) (tested w (2 ^ 64))
+whole_read w o plus plain =
+    elim (cases_eq (get_or w 0 0) 43) [
+      | inl e ↦ plus e ∙ sym (plus_none w (2 ^ 64) e)
+      | inr n ↦ let h = plain n in h.2 ∙ read h.0 _ _ _ (parse_plain own 64 w h.0 h.1 n) (tested w (2 ^ 64))
+    ]
 
-pub amount_plus : (w : List ℕ) → get_or w 0 0 ≡ 43 → None ≡ amount w
+amount_plus : (w : List ℕ) → get_or w 0 0 ≡ 43 → None ≡ amount w
 amount_plus w e =
     let negative : eqb (get_or w 0 0) 45 ≡ false = ne_eqb (get_or w 0 0) 45 (λ m. omega arith) in
     sym (cond-false (eqb (get_or w 0 0) 45) _ _ negative ∙ ap (option_map (λ n. pos n)) (plus_none w (2 ^ 63) e))
@@ -61,5 +62,9 @@ amount_plain w r plain digits h =
     ∙ sym (mapped_cond (λ n. pos n) _ (digits_value 10 w))
     ∙ sym (cond-false (eqb (get_or w 0 0) 45) _ _ (ne_eqb (get_or w 0 0) 45 digits))
 
-pub amount_read : {E : Type 0} (w : List ℕ) (r : Result ℤ E) → (get_or w 0 0 ≡ 43 → ⊥) → ParsesSigned w64 10 w r → result_ok r ≡ amount w
-amount_read w r plain h = elim (cases_eq (get_or w 0 0) 45) [ inl minus ↦ amount_minus w r minus h | inr none ↦ amount_plain w r plain none h ]
+pub amount_read : {E : Type 0} (w : List ℕ) (o : Option ℤ) → (get_or w 0 0 ≡ 43 → o ≡ None) → ((get_or w 0 0 ≡ 43 → ⊥) → (r : Result ℤ E) × ParsesSigned w64 10 w r × (o ≡ result_ok r)) → o ≡ amount w
+amount_read w o plus plain =
+    elim (cases_eq (get_or w 0 0) 43) [
+      | inl e ↦ plus e ∙ amount_plus w e
+      | inr n ↦ let h = plain n in h.2 ∙ elim (cases_eq (get_or w 0 0) 45) [ inl minus ↦ amount_minus w h.0 minus h.1 | inr digits ↦ amount_plain w h.0 n digits h.1 ]
+    ]

@@ -5,9 +5,7 @@ ghost use Rattle.commands.specs.Calls as called;
 ghost use Rattle.commands.specs.Fields.{no_words};
 ghost use Rattle.console.specs.Words.{words};
 
-use crate::fields::{
-    collateral, number_and_amount, number_and_lot, one_number, two_amounts, two_numbers,
-};
+use crate::fields::{collateral, number_and_lot, one, two};
 use console::is_blank;
 use orders::Order;
 
@@ -15,7 +13,7 @@ use orders::Order;
 fn alone(order: Order, rest: &str) -> Option<Order>
     ensures { result ≡ no_words order (words rest.now) }
 {
-    if is_blank(rest) { Some(order) } else { None }
+    is_blank(rest).then_some(order)
 }
 
 // The order of the preparation that begins with a word, by the words that follow it.
@@ -24,16 +22,16 @@ fn preparation(verb: &str, rest: &str) -> Option<Order>
 {
     match verb {
         "trader" => {
-            let (limit, defaults) = two_amounts(rest)?;
+            let (limit, defaults) = two(rest)?;
             Some(Order::Trader(limit, defaults))
         }
-        "client" => Some(Order::Client(one_number(rest)?)),
+        "client" => Some(Order::Client(one(rest)?)),
         "carry" => {
             let (client, lot) = number_and_lot(rest)?;
             Some(Order::Carry(client, lot))
         }
         "price" => {
-            let (contract, price) = two_numbers(rest)?;
+            let (contract, price) = two(rest)?;
             Some(Order::Price(contract, price))
         }
         "deposit" => {
@@ -55,11 +53,11 @@ fn trading(verb: &str, rest: &str) -> Option<Order>
             Some(Order::Trade(trader, lot))
         }
         "specify" => {
-            let (trade, client) = two_numbers(rest)?;
+            let (trade, client) = two(rest)?;
             Some(Order::Specify(trade, client))
         }
-        "cancel" => Some(Order::Cancel(one_number(rest)?)),
-        "statement" => Some(Order::Statement(one_number(rest)?)),
+        "cancel" => Some(Order::Cancel(one(rest)?)),
+        "statement" => Some(Order::Statement(one(rest)?)),
         _ => None,
     }
 }
@@ -73,10 +71,10 @@ fn settlement(verb: &str, rest: &str) -> Option<Order>
             let (holder, amount) = collateral(rest)?;
             Some(Order::Withdraw(holder, amount))
         }
-        "settle" => Some(Order::Settle(one_number(rest)?)),
-        "putback" => Some(Order::PutBack(one_number(rest)?)),
+        "settle" => Some(Order::Settle(one(rest)?)),
+        "putback" => Some(Order::PutBack(one(rest)?)),
         "cash" => {
-            let (client, amount) = number_and_amount(rest)?;
+            let (client, amount) = two(rest)?;
             Some(Order::Cash(client, amount))
         }
         "window" => alone(Order::Window, rest),
@@ -89,6 +87,6 @@ pub fn order_by(verb: &str, rest: &str) -> Option<Order>
     ensures { result ≡ called.order_by verb.now (words rest.now) }
 {
     preparation(verb, rest)
-        .or(trading(verb, rest))
-        .or(settlement(verb, rest))
+        .or_else(|| trading(verb, rest))
+        .or_else(|| settlement(verb, rest))
 }

@@ -27,10 +27,14 @@ words_until w (b ∷ bs) = until_step w b bs (is_space b) refl (words_until (w +
 abbrev Cuts : List ℕ → Type 0
 Cuts bs = words bs ≡ words_of_cut (split_word bs)
 
+-- a word that begins with a byte that is no space
+begun : (b : ℕ) (bs : List ℕ) → is_space b ≡ false → run_length false (b ∷ bs) ≡ suc (run_length false bs)
+begun b bs e = ap (λ (t : Bool). cond (beq t false) (1 + run_length false bs) 0) e ∙ one-add (run_length false bs)
+
 cuts_begun : (b : ℕ) (bs : List ℕ) → is_space b ≡ false → Cuts (b ∷ bs)
 unfolding words
 cuts_begun b bs e =
-    let n : run_length false (b ∷ bs) ≡ suc (run_length false bs) = ap (λ (t : Bool). cond (beq t false) (1 + run_length false bs) 0) e ∙ one-add (run_length false bs) in
+    let n = begun b bs e in
     let Until : ℕ → Type 0 = λ k. words_after [] (b ∷ bs) ≡ before (take k (b ∷ bs)) (words_after [] (drop k (b ∷ bs))) in
     let Cut : ℕ → Type 0 = λ k. words_after [] (b ∷ bs) ≡ words_of_cut (cut_word (take k (b ∷ bs)) (drop k (b ∷ bs))) in
     subst Cut (sym n) (subst Until n (words_until [] (b ∷ bs)))
@@ -62,10 +66,17 @@ pub words_unspaced : (bs : List ℕ) → words (unspaced bs) ≡ words bs
 unfolding words unspaced
 words_unspaced bs = words_skip bs
 
-pub cut_none : (word rest : List ℕ) → length word ≡ 0 → None ≡ cut_word word rest
-cut_none [] rest e = refl
-cut_none (b ∷ word) rest e = absurd (omega arith)
+-- a text that is empty has no first word; another that begins with no space has one
+pub cut_empty : (bs : List ℕ) → length bs ≡ 0 → None ≡ split_word bs
+cut_empty [] e = refl
+cut_empty (b ∷ bs) e = absurd (omega arith)
 
-pub cut_some : (word rest : List ℕ) → (length word ≡ 0 → ⊥) → Some (word, rest) ≡ cut_word word rest
-cut_some [] rest e = absurd (e refl)
-cut_some (b ∷ word) rest e = refl
+cut_at : (b : ℕ) (bs : List ℕ) (t : Bool) → is_space b ≡ t → cond (beq t true) (1 + run_length true bs) 0 ≡ 0 → Some (take (run_length false (b ∷ bs)) (b ∷ bs), drop (run_length false (b ∷ bs)) (b ∷ bs)) ≡ split_word (b ∷ bs)
+cut_at b bs true e h = absurd (omega arith)
+cut_at b bs false e h =
+    let Cut : ℕ → Type 0 = λ k. Some (take k (b ∷ bs), drop k (b ∷ bs)) ≡ cut_word (take k (b ∷ bs)) (drop k (b ∷ bs)) in
+    subst Cut (sym (begun b bs e)) refl
+
+pub cut_some : (bs : List ℕ) → run_length true bs ≡ 0 → (length bs ≡ 0 → ⊥) → Some (take (run_length false bs) bs, drop (run_length false bs) bs) ≡ split_word bs
+cut_some [] h some = absurd (some refl)
+cut_some (b ∷ bs) h some = cut_at b bs (is_space b) refl h

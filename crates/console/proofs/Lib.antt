@@ -1,4 +1,3 @@
-pub mod Boundaries
-pub mod Cutting
 pub mod Digits
-pub mod Verbs
+pub mod Front
+pub mod Cutting

@@ -2,8 +2,9 @@
 #![tactic(auto)]
 
 ghost use Rattle.std.specs.Prelude.{◌≡◌, ◌∷◌, ◌==◌, slice_index};
-ghost use Rattle.console.specs.Words.{words, only};
-ghost use Rattle.console.specs.Requests.{asked, asked_by, sheet_at, contract_of, number_in, meant};
+ghost use Rattle.std.specs.Option.{unwrap_or};
+ghost use Rattle.console.specs.Words.{words};
+ghost use Rattle.console.specs.Requests.{asked, asked_by, meant};
 
 mod numbers;
 mod words;
@@ -24,41 +25,14 @@ pub enum Request<'a> {
     Unreadable,
 }
 
-// What `sheet` asks with the words that follow it.
-fn sheet(rest: &str) -> Request<'_>
-    ensures { meant result ≡ sheet_at (only (words rest.now)) }
-{
-    match only_word(rest) {
-        Some(path) => Request::Sheet(path),
-        None => Request::Unreadable,
-    }
-}
-
-// The number in the word of a line that has just one.
-fn only_number(line: &str) -> Option<u64>
-    ensures { result ≡ number_in (only (words line.now)) }
-{
-    number(only_word(line)?)
-}
-
-// What `contract` asks with the words that follow it.
-fn contract(rest: &str) -> Request<'_>
-    ensures { meant result ≡ contract_of (number_in (only (words rest.now))) }
-{
-    match only_number(rest) {
-        Some(contract) => Request::Contract(contract),
-        None => Request::Unreadable,
-    }
-}
-
-// What a line asks that begins with a word, by the words that follow it.
-fn request_for<'a>(verb: &str, rest: &'a str) -> Request<'a>
-    ensures { meant result ≡ asked_by (verb.now ∷ words rest.now) }
+// What a line asks that begins with a word, by the words that follow it; `None` if the console does not know the line.
+fn request_for<'a>(verb: &str, rest: &'a str) -> Option<Request<'a>>
+    ensures { meant (unwrap_or result Request.Unreadable) ≡ asked_by (verb.now ∷ words rest.now) }
 {
     match verb {
-        "sheet" => sheet(rest),
-        "contract" => contract(rest),
-        _ => Request::Unreadable,
+        "sheet" => Some(Request::Sheet(only_word(rest)?)),
+        "contract" => Some(Request::Contract(number(only_word(rest)?)?)),
+        _ => None,
     }
 }
 
@@ -74,7 +48,7 @@ fn request_by_words(line: &str) -> Request<'_>
     ensures { meant result ≡ asked_by (words line.now) }
 {
     match next_word(line) {
-        Some((verb, rest)) => request_for(verb, rest),
+        Some((verb, rest)) => request_for(verb, rest).unwrap_or(Request::Unreadable),
         None => Request::Nothing,
     }
 }

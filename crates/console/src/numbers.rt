@@ -1,22 +1,15 @@
 //! Numbers in text.
 
 ghost use Rattle.std.specs.Prelude.{◌≡◌};
-ghost use Rattle.console.specs.Numbers.{digits_number, decimal};
+ghost use Rattle.std.specs.Char.{is_ascii_digit};
+ghost use Rattle.std.specs.List.{list_all};
+ghost use Rattle.console.specs.Numbers.{decimal};
 
-// The number that digits write, `u64::MAX` in place of a larger one; `None` where another byte stands.
-fn read_digits(digits: &[u8]) -> Option<u64>
-    ensures { result ≡ digits_number digits.now }
+// Whether each byte of a word is a decimal digit.
+fn has_digits_only(word: &str) -> bool
+    ensures { result ≡ list_all is_ascii_digit word.now }
 {
-    let mut number = 0u64;
-    for digit in digits {
-        if !digit.is_ascii_digit() {
-            return None;
-        }
-        number = number
-            .saturating_mul(10)
-            .saturating_add(u64::from(*digit - b'0'));
-    }
-    Some(number)
+    word.as_bytes().iter().all(|byte| byte.is_ascii_digit())
 }
 
 /// The number that a word of decimal digits writes, `u64::MAX` in place of a larger one; `None` for another word.
@@ -25,7 +18,9 @@ pub fn number(word: &str) -> Option<u64>
 {
     if word.is_empty() {
         None
+    } else if has_digits_only(word) {
+        Some(word.parse::<u64>().unwrap_or(u64::MAX))
     } else {
-        read_digits(word.as_bytes())
+        None
     }
 }

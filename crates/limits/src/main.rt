@@ -7,25 +7,42 @@ use console::{Request, request_of};
 use sheet_set::sets::SheetSet;
 use std::alloc::AllocError;
 use std::io::{BufRead, BufReader, Read};
-use std::{fs, io};
+use std::{fmt, fs, io};
 
 /// The most bytes read of a file: one more than a sheet may have, so that a longer one is known.
 const MOST_READ: u64 = 65_537;
 
-/// The answer to a line that the program does not know.
-const NO_LINE: &str = "unreadable not a line of this program";
+/// Why a line has no answer.
+#[derive(Drop)]
+enum Failure {
+    /// The program does not know the line.
+    NoLine,
+    /// The file that it names cannot be read.
+    NoFile,
+    /// There is no memory, or the input or the output fails.
+    Broken(io::Error),
+}
 
-/// The answer to a path at which no file can be read.
-const NO_FILE: &str = "unreadable the file cannot be read";
+impl fmt::Display for Failure {
+    fn fmt<W: fmt::Write>(&self, f: &mut fmt::Formatter<W>) -> fmt::Result {
+        match self {
+            Failure::NoLine => write!(f, "unreadable not a line of this program"),
+            Failure::NoFile => write!(f, "unreadable the file cannot be read"),
+            Failure::Broken(error) => write!(f, "{error}"),
+        }
+    }
+}
 
-/// What a line came to.
-enum Answer {
-    /// Nothing is written.
-    Silent,
-    /// A line is written.
-    Line(String),
-    /// The line, or the file that it names, cannot be read.
-    Unreadable(&'static str),
+impl From<io::Error> for Failure {
+    fn from(error: io::Error) -> Failure {
+        Failure::Broken(error)
+    }
+}
+
+impl From<AllocError> for Failure {
+    fn from(error: AllocError) -> Failure {
+        Failure::Broken(io::Error::from(error))
+    }
 }
 
 // The start of the file at a path.
@@ -35,60 +52,72 @@ fn read_file(rt: &HostRuntime, path: &str) -> io::Result<Vec<u8>> {
     Ok(bytes)
 }
 
-// The answer to a line that names a file.
-fn answer_sheet(rt: &HostRuntime, sheets: &mut SheetSet, path: &str) -> Result<Answer, AllocError> {
-    match read_file(rt, path) {
-        Ok(file) => Ok(Answer::Line(add_sheet(rt.alloc(), sheets, file.as_slice())?)),
-        Err(_) => Ok(Answer::Unreadable(NO_FILE)),
+// Why there is no next line. A line that is no text is one that the program does not know.
+fn failed_input(error: io::Error) -> Failure {
+    match error.kind() {
+        io::ErrorKind::InvalidData => Failure::NoLine,
+        _ => Failure::Broken(error),
     }
 }
 
-// The answer to a line.
-fn answer_to(rt: &HostRuntime, sheets: &mut SheetSet, line: &str) -> Result<Answer, AllocError> {
-    match request_of(line) {
-        Request::Nothing => Ok(Answer::Silent),
-        Request::Sheet(path) => answer_sheet(rt, sheets, path),
-        Request::Contract(contract) => Ok(Answer::Line(contract_line(
-            rt.alloc(),
-            sheets.model(),
-            contract,
-        )?)),
-        Request::Unreadable => Ok(Answer::Unreadable(NO_LINE)),
-    }
+/// The console: what it runs on, and the sheets that it has read.
+#[derive(Drop)]
+struct Console<'a> {
+    rt: &'a HostRuntime,
+    sheets: SheetSet,
 }
 
-// Answers a line of the input, and tells whether it was readable. A line that is no text is unreadable.
-fn respond(rt: &HostRuntime, sheets: &mut SheetSet, line: io::Result<String>) -> io::Result<bool> {
-    let answer = match line {
-        Ok(text) => answer_to(rt, sheets, text.as_str())?,
-        Err(error) if error.kind() == io::ErrorKind::InvalidData => Answer::Unreadable(NO_LINE),
-        Err(error) => return Err(error),
-    };
-    match answer {
-        Answer::Silent => Ok(true),
-        Answer::Line(text) => {
-            rt.println(text)?;
-            Ok(true)
+impl Console<'_> {
+    // The answer to a line that names a file.
+    fn answer_sheet(&mut self, path: &str) -> Result<String, Failure> {
+        let file = read_file(self.rt, path).map_err(|_| Failure::NoFile)?;
+        Ok(add_sheet(self.rt.alloc(), &mut self.sheets, file.as_slice())?)
+    }
+
+    // The answer to a line, `None` to one that asks nothing.
+    fn answer_to(&mut self, line: &str) -> Result<Option<String>, Failure> {
+        match request_of(line) {
+            Request::Nothing => Ok(None),
+            Request::Sheet(path) => Ok(Some(self.answer_sheet(path)?)),
+            Request::Contract(contract) => Ok(Some(contract_line(
+                self.rt.alloc(),
+                self.sheets.model(),
+                contract,
+            )?)),
+            Request::Unreadable => Err(Failure::NoLine),
         }
-        Answer::Unreadable(text) => {
-            rt.println(text)?;
-            Ok(false)
+    }
+
+    // Answers a line of the input.
+    fn respond(&mut self, line: io::Result<String>) -> Result<(), Failure> {
+        let text = line.map_err(failed_input)?;
+        if let Some(answer) = self.answer_to(text.as_str())? {
+            self.rt.println(answer)?;
+        }
+        Ok(())
+    }
+
+    // Tells why a line has no answer, unless nothing can be told any more.
+    fn report(&self, failure: Failure) -> io::Result<()> {
+        match failure {
+            Failure::Broken(error) => Err(error),
+            unreadable => self.rt.println(unreadable),
         }
     }
 }
 
 /// Answers every line. If one was unreadable the program ends with status 1.
 fn main(rt: HostRuntime) -> io::Result<()> {
-    let mut sheets = SheetSet::new();
-    let mut readable = true;
+    let mut console = Console {
+        rt: &rt,
+        sheets: SheetSet::new(),
+    };
+    let mut outcome = Ok(());
     for line in BufReader::new(rt.alloc(), rt.stdin())?.lines(rt.alloc()) {
-        if !respond(&rt, &mut sheets, line)? {
-            readable = false;
+        if let Err(failure) = console.respond(line) {
+            console.report(failure)?;
+            outcome = Err(io::Error::from(io::ErrorKind::InvalidInput));
         }
     }
-    if readable {
-        Ok(())
-    } else {
-        Err(io::Error::from(io::ErrorKind::InvalidInput))
-    }
+    outcome
 }

@@ -2,7 +2,7 @@
 
 #![tactic(auto)]
 
-ghost use Rattle.std.specs.Prelude.{◌≡◌, [], ◌∷◌, ◌++◌, decimal};
+ghost use Rattle.std.specs.Prelude.{◌≡◌, ℕ, List, [], ◌∷◌, ◌++◌, decimal};
 ghost use Rattle.std.specs.Fmt.{sign_text, signed_decimal};
 ghost use Rattle.lines.specs.Lined.{written, followed};
 
@@ -35,6 +35,7 @@ impl Line {
     }
 
     // Writes a byte more.
+    #[tactic(auto, using(crate::proofs::Room::followed_byte))]
     fn push_byte(&mut self, byte: u8)
         ensures { written self.new ≡ followed (written self.old) (byte ∷ []) }
     {
@@ -42,6 +43,7 @@ impl Line {
     }
 
     // Writes bytes.
+    #[tactic(auto, using(crate::proofs::Room::followed_none, crate::proofs::Room::followed_more))]
     fn push_bytes(&mut self, bytes: &[u8])
         ensures { written self.new ≡ followed (written self.old) bytes.now }
     {
@@ -50,39 +52,21 @@ impl Line {
         }
     }
 
-    /// Writes a text.
-    pub fn push_str(&mut self, text: &str)
-        ensures { written self.new ≡ followed (written self.old) text.now }
-    {
-        self.push_bytes(text.as_bytes());
-    }
-
-    /// Writes a number in decimal digits.
-    pub fn push_number(&mut self, number: u64)
+    // Writes a number in decimal digits.
+    #[tactic(auto, using(crate::proofs::Decimals::one_digit, crate::proofs::Decimals::one_more))]
+    fn push_digits(&mut self, number: u128)
         ensures { written self.new ≡ followed (written self.old) (decimal number) }
     {
         if number < 10 {
             self.push_byte(b'0' + number as u8);
         } else {
-            self.push_number(number / 10);
+            self.push_digits(number / 10);
             self.push_byte(b'0' + (number % 10) as u8);
         }
     }
 
-    /// Writes a wide number in decimal digits.
-    pub fn push_wide(&mut self, number: u128)
-        ensures { written self.new ≡ followed (written self.old) (decimal number) }
-    {
-        match u64::try_from(number) {
-            Ok(small) => self.push_number(small),
-            Err(_) => {
-                self.push_wide(number / 10);
-                self.push_byte(b'0' + (number % 10) as u8);
-            }
-        }
-    }
-
     // Writes a minus, if there is to be one.
+    #[tactic(auto, using(crate::proofs::Room::followed_none))]
     fn push_sign(&mut self, negative: bool)
         ensures { written self.new ≡ followed (written self.old) (sign_text negative) }
     {
@@ -91,27 +75,71 @@ impl Line {
         }
     }
 
-    /// Writes a number in decimal digits, after a minus if it is below zero.
-    pub fn push_signed(&mut self, number: i64)
-        ensures { written self.new ≡ followed (written self.old) (signed_decimal number) }
+    /// Writes what a value shows.
+    pub fn push<T: Shown>(&mut self, value: T)
+        ensures { written self.new ≡ followed (written self.old) (T.text value) }
     {
-        self.push_sign(number < 0);
-        self.push_number(number.unsigned_abs());
+        value.show(self);
     }
+}
 
-    /// Writes a text, and then a number in decimal digits.
-    pub fn push_str_number(&mut self, text: &str, number: u64)
-        ensures { written self.new ≡ followed (written self.old) (text.now ++ decimal number) }
-    {
-        self.push_str(text);
-        self.push_number(number);
+/// What can be written on a line.
+// Kept beside `fmt::Display`: a contract of `write!` speaks of its `Ok` alone, and what is written here cannot fail.
+pub trait Shown: Drop {
+    /// The bytes that are written.
+    ghost text: { Self → List ℕ };
+
+    /// Writes them.
+    fn show(self, line: &mut Line)
+        ensures { written line.new ≡ followed (written line.old) (text self) };
+}
+
+/// A text, as it is.
+impl Shown for &str {
+    ghost text = { λ s. s.now };
+
+    fn show(self, line: &mut Line) {
+        line.push_bytes(self.as_bytes());
     }
+}
 
-    /// Writes a text, and then a number in decimal digits, after a minus if it is below zero.
-    pub fn push_str_signed(&mut self, text: &str, number: i64)
-        ensures { written self.new ≡ followed (written self.old) (text.now ++ signed_decimal number) }
-    {
-        self.push_str(text);
-        self.push_signed(number);
+/// A number, in decimal digits.
+impl Shown for u64 {
+    ghost text = { decimal };
+
+    fn show(self, line: &mut Line) {
+        line.push_digits(u128::from(self));
+    }
+}
+
+/// A wide number, in decimal digits.
+impl Shown for u128 {
+    ghost text = { decimal };
+
+    fn show(self, line: &mut Line) {
+        line.push_digits(self);
+    }
+}
+
+/// A number in decimal digits, after a minus if it is below zero.
+impl Shown for i64 {
+    ghost text = { signed_decimal };
+
+    #[tactic(auto, using(crate::proofs::Decimals::sign_first))]
+    fn show(self, line: &mut Line) {
+        line.push_sign(self < 0);
+        line.push(self.unsigned_abs());
+    }
+}
+
+/// One value, and then another.
+impl<A: Shown, B: Shown> Shown for (A, B) {
+    ghost text = { λ p. A.text p.0 ++ B.text p.1 };
+
+    #[tactic(auto, using(crate::proofs::Room::then))]
+    fn show(self, line: &mut Line) {
+        let (first, second) = self;
+        line.push(first);
+        line.push(second);
     }
 }

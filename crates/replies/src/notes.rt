@@ -1,7 +1,9 @@
 //! Why a line is not carried out: it stands where it cannot, or it cannot be read.
 
-ghost use Rattle.std.specs.Prelude.{◌≡◌};
+ghost use Rattle.std.specs.Prelude.{◌≡◌, Some};
 ghost use Rattle.replies.specs.Notes.{misplaced_note, unreadable_note};
+
+use std::fmt;
 
 /// Why a line cannot be carried out where it stands.
 #[derive(Clone, Copy)]
@@ -54,5 +56,21 @@ impl Unreadable {
             Unreadable::NoFile => "the file cannot be read",
             Unreadable::TooLong => "the line is too long",
         }
+    }
+}
+
+impl fmt::Display for Misplaced {
+    ghost output = { λ x. Some (misplaced_note x) };
+
+    fn fmt<W: fmt::Write>(&self, f: &mut fmt::Formatter<W>) -> fmt::Result {
+        f.write_str(self.text())
+    }
+}
+
+impl fmt::Display for Unreadable {
+    ghost output = { λ x. Some (unreadable_note x) };
+
+    fn fmt<W: fmt::Write>(&self, out: &mut fmt::Formatter<W>) -> fmt::Result {
+        out.write_str(self.text())
     }
 }

@@ -1,114 +1,95 @@
-//! The lines of a trader's statement. Each is written on a line, behind what stands there.
+//! The lines of a trader's statement. Amounts are signed.
 
 ghost use Rattle.std.specs.Prelude.{◌≡◌};
 ghost use Rattle.lines.specs.Lined.{written, followed};
-ghost use Rattle.replies.specs.Statements.{statement_text, end_text, margins_text, figures_text, client_figures_text, specified_text, unspecified_text, risk_text, backing_text, violation_text, limit_text, utilisation_text};
+ghost use Rattle.replies.specs.Rows.{row_text, figures_of_client};
+ghost use Rattle.replies.specs.Statements.{margins_text, violation_text};
 
-use lines::Line;
+use lines::{Line, Shown};
 
-/// Whose statement it is.
-pub fn statement_line(line: &mut Line, trader: u64)
-    ensures { written line.new ≡ followed (written line.old) (statement_text trader) }
-{
-    line.push_str_number("statement ", trader);
+/// The figures of a client.
+#[derive(Clone, Copy)]
+pub struct ClientFigures<'a> {
+    /// The client's number.
+    pub client: u64,
+    /// What it has to cover.
+    pub need: i64,
+    /// What covers it.
+    pub collateral: i64,
+    /// What is missing.
+    pub deficit: i64,
+    /// The margins of its subportfolios.
+    pub margins: &'a [i64],
 }
 
-// A client with its figures.
-fn add_figures(line: &mut Line, client: u64, need: i64, collateral: i64, deficit: i64)
-    ensures { written line.new ≡ followed (written line.old) (figures_text client need collateral deficit) }
-{
-    line.push_str_number("client ", client);
-    line.push_str_signed(" need ", need);
-    line.push_str_signed(" collateral ", collateral);
-    line.push_str_signed(" deficit ", deficit);
+/// A line of a statement.
+#[derive(Clone, Copy)]
+pub enum StatementLine<'a> {
+    /// Whose statement it is.
+    Trader(u64),
+    /// The figures of a client.
+    Client(ClientFigures<'a>),
+    /// The trader's specified risk: the greatest deficits of its clients, summed.
+    Specified(i64),
+    /// Its unspecified risk: what its trades without a client may lose.
+    Unspecified(i64),
+    /// Its risk, both parts together.
+    Risk(i64),
+    /// What backs the risk.
+    Backing(i64),
+    /// Its limit, which is the backing less the risk; below zero it is violated.
+    Limit(i64),
+    /// How much of the backing is used, in percent; `None` where there is no backing.
+    Utilisation(Option<u128>),
+    /// The end of the statement.
+    End,
 }
 
-// Adds margins to a line, each after a space.
-fn add_margins(line: &mut Line, margins: &[i64])
+// Writes margins, each after a space.
+#[tactic(auto, using(crate::proofs::Margins::margins_more, lines::proofs::Room::followed_none), unfolding(crate::specs::Statements::margins_text))]
+fn show_margins(margins: &[i64], line: &mut Line)
     ensures { written line.new ≡ followed (written line.old) (margins_text margins.now) }
 {
     for margin in margins {
-        line.push_str_signed(" ", *margin);
+        line.push((" ", *margin));
     }
 }
 
-/// What a client has to cover, what covers it, what is missing, and the margins of its subportfolios.
-pub fn client_figures_line(
-    line: &mut Line,
-    client: u64,
-    need: i64,
-    collateral: i64,
-    deficit: i64,
-    margins: &[i64],
-)
-    ensures { written line.new ≡ followed (written line.old) (client_figures_text client need collateral deficit margins.now) }
-{
-    add_figures(line, client, need, collateral, deficit);
-    line.push_str(" margins");
-    add_margins(line, margins);
-}
+impl Shown for ClientFigures<'_> {
+    ghost text = { figures_of_client };
 
-/// A trader's specified risk: the greatest deficits of its clients, summed.
-pub fn specified_line(line: &mut Line, amount: i64)
-    ensures { written line.new ≡ followed (written line.old) (specified_text amount) }
-{
-    line.push_str_signed("specified ", amount);
-}
-
-/// A trader's unspecified risk: what its trades without a client may lose.
-pub fn unspecified_line(line: &mut Line, amount: i64)
-    ensures { written line.new ≡ followed (written line.old) (unspecified_text amount) }
-{
-    line.push_str_signed("unspecified ", amount);
-}
-
-/// A trader's risk, both parts together.
-pub fn risk_line(line: &mut Line, amount: i64)
-    ensures { written line.new ≡ followed (written line.old) (risk_text amount) }
-{
-    line.push_str_signed("risk ", amount);
-}
-
-/// What backs a trader's risk.
-pub fn backing_line(line: &mut Line, amount: i64)
-    ensures { written line.new ≡ followed (written line.old) (backing_text amount) }
-{
-    line.push_str_signed("backing ", amount);
-}
-
-// Tells that a limit is violated, if it is.
-fn add_violation(line: &mut Line, violated: bool)
-    ensures { written line.new ≡ followed (written line.old) (violation_text violated) }
-{
-    if violated {
-        line.push_str(" violation");
+    fn show(self, line: &mut Line) {
+        line.push(("client ", self.client));
+        line.push((" need ", self.need));
+        line.push((" collateral ", self.collateral));
+        line.push((" deficit ", self.deficit));
+        line.push(" margins");
+        show_margins(self.margins, line);
     }
 }
 
-/// A trader's limit, which is its backing less its risk; below zero it is violated.
-pub fn limit_line(line: &mut Line, limit: i64)
-    ensures { written line.new ≡ followed (written line.old) (limit_text limit) }
+// What tells that a limit is violated, if it is.
+fn violation(violated: bool) -> &'static str
+    ensures { result.now ≡ violation_text violated }
 {
-    line.push_str_signed("limit ", limit);
-    add_violation(line, limit < 0);
+    if violated { " violation" } else { "" }
 }
 
-/// How much of the backing is used, in percent; `None` where there is no backing.
-pub fn utilisation_line(line: &mut Line, percent: Option<u128>)
-    ensures { written line.new ≡ followed (written line.old) (utilisation_text percent) }
-{
-    match percent {
-        Some(percent) => {
-            line.push_str("utilisation ");
-            line.push_wide(percent);
+impl Shown for StatementLine<'_> {
+    ghost text = { row_text };
+
+    fn show(self, line: &mut Line) {
+        match self {
+            StatementLine::Trader(trader) => line.push(("statement ", trader)),
+            StatementLine::Client(figures) => line.push(figures),
+            StatementLine::Specified(amount) => line.push(("specified ", amount)),
+            StatementLine::Unspecified(amount) => line.push(("unspecified ", amount)),
+            StatementLine::Risk(amount) => line.push(("risk ", amount)),
+            StatementLine::Backing(amount) => line.push(("backing ", amount)),
+            StatementLine::Limit(limit) => line.push((("limit ", limit), violation(limit < 0))),
+            StatementLine::Utilisation(Some(percent)) => line.push(("utilisation ", percent)),
+            StatementLine::Utilisation(None) => line.push("utilisation no backing"),
+            StatementLine::End => line.push("end"),
         }
-        None => line.push_str("utilisation no backing"),
     }
-}
-
-/// The end of a statement.
-pub fn end_line(line: &mut Line)
-    ensures { written line.new ≡ followed (written line.old) end_text }
-{
-    line.push_str("end");
 }

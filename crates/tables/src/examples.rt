@@ -1,11 +1,12 @@
 //! What the figures of a table are worked out from.
 
-ghost use Rattle.std.specs.Prelude.{◌≡◌, [], replicate, IfOk, None, MatchResult, OnOk};
+ghost use Rattle.std.specs.Prelude.{◌≡◌, ◌↔◌, [], false, replicate, None, MatchResult, OnOk, IsErrOf};
 ghost use Rattle.refusals.specs.Numbers.{refusal_of};
 ghost use Rattle.figures.specs.Positions.{positions_of};
 ghost use Rattle.inspection.specs.Causes.{sheet_cause};
 ghost use Rattle.sheets.specs.Sheets.{empty_table};
 ghost use Rattle.sheets.specs.Tables.{table_of, Holds};
+ghost use Rattle.tables.specs.declared.examples.Untaken.TheVariants.{OutOfMemory};
 ghost use Rattle.tables.specs.Steps.{step_of, stepped};
 ghost use Rattle.tables.specs.Taken.{taken, ticks_after, positions_after, taken_if, ticks_after_if, positions_after_if};
 
@@ -14,7 +15,24 @@ use figures::position::Position;
 use figures::prices::Prices;
 use refusals::Refusal;
 use sheets::kinds::Sheet;
-use std::alloc::{AllocError, Global};
+use std::alloc::{AllocFailed, Global};
+
+/// Why a row is not taken over.
+#[derive(Clone, Copy)]
+pub(crate) enum Untaken {
+    /// It says no step, or a price outside the bounds.
+    Refused,
+    /// There is no memory for one more position.
+    OutOfMemory,
+}
+
+impl<T: Drop> From<AllocFailed<T>> for Untaken {
+    ghost from_gives = { λ _ e. e ≡ OutOfMemory };
+
+    fn from(_: AllocFailed<T>) -> Untaken {
+        Untaken::OutOfMemory
+    }
+}
 
 /// A sheet, market prices and positions.
 #[derive(Drop)]
@@ -59,10 +77,9 @@ impl Example {
         Ok(())
     }
 
-    // Takes over a step, and tells whether it could.
-    // Kept as a bool in the `Result`: want of memory ends the program, and a step that cannot be taken over is one more row to answer.
-    fn take_step(&mut self, step: Step) -> Result<bool, AllocError>
-        ensures said { IfOk result (λ b. b ≡ taken (step_of step)) }
+    // Takes over a step.
+    fn take_step(&mut self, step: Step) -> Result<(), Untaken>
+        ensures refused { IsErrOf result Untaken.Refused ↔ (taken (step_of step) ≡ false) }
         ensures sheet { self.new.sheet ≡ self.old.sheet }
         ensures prices { self.new.prices.ticks ≡ ticks_after (step_of step) self.old.prices.ticks }
         ensures positions { MatchResult result (λ _. positions_of self.new.positions.items ≡ positions_after (step_of step) (positions_of self.old.positions.items)) (λ _. self.new.positions.items ≡ self.old.positions.items) }
@@ -70,27 +87,23 @@ impl Example {
         match step {
             Step::Clear => {
                 self.clear();
-                Ok(true)
+                Ok(())
             }
-            Step::Price(contract, ticks) => Ok(self.prices.set(contract, ticks).is_ok()),
-            Step::Trade(position) => {
-                self.positions.push(position)?;
-                Ok(true)
-            }
+            Step::Price(contract, ticks) => self
+                .prices
+                .set(contract, ticks)
+                .or(Err(Untaken::Refused)),
+            Step::Trade(position) => Ok(self.positions.push(position)?),
         }
     }
 
-    /// Takes over what a word says with numbers, and tells whether it could. Where it could not, or there is no memory for one
-    /// more position, nothing has changed.
-    pub(crate) fn take(&mut self, word: &str, numbers: &[i64]) -> Result<bool, AllocError>
-        ensures said { IfOk result (λ b. b ≡ taken_if (stepped word.now numbers.now)) }
+    /// Takes over what a word says with numbers. Where it cannot, nothing has changed.
+    pub(crate) fn take(&mut self, word: &str, numbers: &[i64]) -> Result<(), Untaken>
+        ensures refused { IsErrOf result Untaken.Refused ↔ (taken_if (stepped word.now numbers.now) ≡ false) }
         ensures sheet { self.new.sheet ≡ self.old.sheet }
         ensures prices { self.new.prices.ticks ≡ ticks_after_if (stepped word.now numbers.now) self.old.prices.ticks }
         ensures positions { MatchResult result (λ _. positions_of self.new.positions.items ≡ positions_after_if (stepped word.now numbers.now) (positions_of self.old.positions.items)) (λ _. self.new.positions.items ≡ self.old.positions.items) }
     {
-        match step_in(word, numbers) {
-            Some(step) => self.take_step(step),
-            None => Ok(false),
-        }
+        self.take_step(step_in(word, numbers).ok_or(Untaken::Refused)?)
     }
 }

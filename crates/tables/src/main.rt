@@ -11,110 +11,116 @@ mod steps;
 mod workings;
 
 use console::{next_word, only_word};
-use examples::Example;
+use examples::{Example, Untaken};
 use numbers::all_signed;
+use std::alloc::AllocError;
 use std::{fs, io};
 use workings::{Figure, figure_in};
 
-/// What became of a row.
-enum Outcome {
-    /// It was taken over, or its figure is as expected.
-    Well,
+/// What is wrong with a row.
+#[derive(Drop)]
+enum Fault {
     /// Its figure is not as expected.
     Different,
     /// It cannot be read, or its figure cannot be worked out.
     Faulty,
+    /// There is no memory, or the input or the output fails.
+    Broken(io::Error),
 }
 
-// A row that was taken over, or could not be.
-fn taken(well: bool) -> Outcome {
-    if well { Outcome::Well } else { Outcome::Faulty }
-}
-
-// Prints a figure beside what it should be.
-fn compare(
-    rt: &HostRuntime,
-    question: &str,
-    figure: Figure,
-    expected: Figure,
-) -> io::Result<Outcome> {
-    println!(rt; "{question}: worked out {figure}, should be {expected}")?;
-    if figure == expected {
-        Ok(Outcome::Well)
-    } else {
-        Ok(Outcome::Different)
+impl From<io::Error> for Fault {
+    fn from(error: io::Error) -> Fault {
+        Fault::Broken(error)
     }
 }
 
-// Answers a row that asks for a figure.
-fn answer(
-    rt: &HostRuntime,
-    example: &Example,
-    question: &str,
-    expected: &str,
-) -> io::Result<Outcome> {
-    let Some((word, rest)) = next_word(question) else {
-        return Ok(Outcome::Faulty);
-    };
-    let Some(numbers) = all_signed(rt.alloc(), rest)? else {
-        return Ok(Outcome::Faulty);
-    };
-    match (
-        example.figure(word, numbers.as_slice()),
-        figure_in(expected),
-    ) {
-        (Some(figure), Some(expected)) => compare(rt, question.trim(), figure, expected),
-        _ => Ok(Outcome::Faulty),
+impl From<AllocError> for Fault {
+    fn from(error: AllocError) -> Fault {
+        Fault::Broken(io::Error::from(error))
     }
 }
 
-// Takes over the sheet at a path.
-fn read_sheet(rt: &HostRuntime, example: &mut Example, path: &str) -> Outcome {
-    match fs::read(rt, path) {
-        Ok(file) => taken(example.read(file.as_slice()).is_ok()),
-        Err(_) => Outcome::Faulty,
+impl From<Untaken> for Fault {
+    fn from(error: Untaken) -> Fault {
+        match error {
+            Untaken::Refused => Fault::Faulty,
+            Untaken::OutOfMemory => Fault::Broken(io::Error::from(io::ErrorKind::OutOfMemory)),
+        }
     }
 }
 
-// Takes over what a word says with the words that follow it.
-fn prepare(rt: &HostRuntime, example: &mut Example, word: &str, rest: &str) -> io::Result<Outcome> {
-    if word == "sheet"
-        && let Some(path) = only_word(rest)
-    {
-        return Ok(read_sheet(rt, example, path));
-    }
-    match all_signed(rt.alloc(), rest)? {
-        Some(numbers) => Ok(taken(example.take(word, numbers.as_slice())?)),
-        None => Ok(Outcome::Faulty),
-    }
+/// The program: what it runs on, and what it works figures out from.
+#[derive(Drop)]
+struct Tables<'a> {
+    rt: &'a HostRuntime,
+    example: Example,
 }
 
-// Answers a row. One that is blank, or that begins with `#`, is passed over.
-fn respond(rt: &HostRuntime, example: &mut Example, row: &str) -> io::Result<Outcome> {
-    let Some((word, rest)) = next_word(row) else {
-        return Ok(Outcome::Well);
-    };
-    if row.starts_with('#') {
-        return Ok(Outcome::Well);
+impl Tables<'_> {
+    // Prints a figure beside what it should be.
+    fn compare(&self, question: &str, figure: Figure, expected: Figure) -> Result<(), Fault> {
+        println!(self.rt; "{question}: worked out {figure}, should be {expected}")?;
+        if figure == expected {
+            Ok(())
+        } else {
+            Err(Fault::Different)
+        }
     }
-    if word == "table" {
-        rt.println(rest.trim())?;
-        return Ok(Outcome::Well);
-    }
-    match row.split_once('=') {
-        Some((question, expected)) => answer(rt, example, question, expected),
-        None => prepare(rt, example, word, rest),
-    }
-}
 
-// Answers a row, and tells whether all is well with it.
-fn report(rt: &HostRuntime, example: &mut Example, row: &str) -> io::Result<bool> {
-    match respond(rt, example, row)? {
-        Outcome::Well => Ok(true),
-        Outcome::Different => Ok(false),
-        Outcome::Faulty => {
-            println!(rt; "cannot be worked out: {row}")?;
-            Ok(false)
+    // Answers a row that asks for a figure.
+    fn answer(&self, question: &str, expected: &str) -> Result<(), Fault> {
+        let (word, rest) = next_word(question).ok_or(Fault::Faulty)?;
+        let numbers = all_signed(self.rt.alloc(), rest)?.ok_or(Fault::Faulty)?;
+        let figure = self
+            .example
+            .figure(word, numbers.as_slice())
+            .ok_or(Fault::Faulty)?;
+        let expected = figure_in(expected).ok_or(Fault::Faulty)?;
+        self.compare(question.trim(), figure, expected)
+    }
+
+    // Takes over the sheet at a path.
+    fn read_sheet(&mut self, path: &str) -> Result<(), Fault> {
+        let file = fs::read(self.rt, path).map_err(|_| Fault::Faulty)?;
+        self.example
+            .read(file.as_slice())
+            .map_err(|_| Fault::Faulty)
+    }
+
+    // Takes over what a word says with the words that follow it.
+    fn prepare(&mut self, word: &str, rest: &str) -> Result<(), Fault> {
+        if word == "sheet"
+            && let Some(path) = only_word(rest)
+        {
+            return self.read_sheet(path);
+        }
+        let numbers = all_signed(self.rt.alloc(), rest)?.ok_or(Fault::Faulty)?;
+        Ok(self.example.take(word, numbers.as_slice())?)
+    }
+
+    // Answers a row. One that is blank, or that begins with `#`, is passed over.
+    fn respond(&mut self, row: &str) -> Result<(), Fault> {
+        let Some((word, rest)) = next_word(row) else {
+            return Ok(());
+        };
+        if row.starts_with('#') {
+            return Ok(());
+        }
+        if word == "table" {
+            return Ok(self.rt.println(rest.trim())?);
+        }
+        match row.split_once('=') {
+            Some((question, expected)) => self.answer(question, expected),
+            None => self.prepare(word, rest),
+        }
+    }
+
+    // Tells what is wrong with a row, unless its figures stand beside each other already or nothing can be told any more.
+    fn report(&self, row: &str, fault: Fault) -> io::Result<()> {
+        match fault {
+            Fault::Different => Ok(()),
+            Fault::Faulty => println!(self.rt; "cannot be worked out: {row}"),
+            Fault::Broken(error) => Err(error),
         }
     }
 }
@@ -122,16 +128,16 @@ fn report(rt: &HostRuntime, example: &mut Example, row: &str) -> io::Result<bool
 /// Answers every row. Unless all is well with each, the program ends with status 1.
 fn main(rt: HostRuntime) -> io::Result<()> {
     let rows = io::read_to_string(rt.alloc(), rt.stdin())?;
-    let mut example = Example::new(rt.alloc());
-    let mut well = true;
+    let mut tables = Tables {
+        rt: &rt,
+        example: Example::new(rt.alloc()),
+    };
+    let mut outcome = Ok(());
     for row in rows.lines() {
-        if !report(&rt, &mut example, row)? {
-            well = false;
+        if let Err(fault) = tables.respond(row) {
+            tables.report(row, fault)?;
+            outcome = Err(io::Error::from(io::ErrorKind::InvalidData));
         }
     }
-    if well {
-        Ok(())
-    } else {
-        Err(io::Error::from(io::ErrorKind::InvalidData))
-    }
+    outcome
 }

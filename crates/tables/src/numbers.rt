@@ -12,10 +12,7 @@ use std::alloc::{AllocError, Global};
 fn whole(digits: &str) -> Option<i64>
     ensures { result ≡ whole_in digits.now }
 {
-    match number(digits) {
-        Some(number) => i64::try_from(number).ok(),
-        None => None,
-    }
+    i64::try_from(number(digits)?).ok()
 }
 
 /// The number that a word writes: decimal digits, with `-` before them for a number below 0. `None` for another word, and
@@ -24,10 +21,7 @@ pub(crate) fn signed(word: &str) -> Option<i64>
     ensures { result ≡ signed_in word.now }
 {
     match word.strip_prefix('-') {
-        Some(digits) => match whole(digits) {
-            Some(number) => Some(-number),
-            None => None,
-        },
+        Some(digits) => Some(-whole(digits)?),
         None => whole(word),
     }
 }
@@ -36,6 +30,7 @@ pub(crate) fn signed(word: &str) -> Option<i64>
 pub(crate) fn all_signed(heap: Global, text: &str) -> Result<Option<Vec<i64>>, AllocError>
     ensures { IfOk result (λ o. option_map vec_items o ≡ all_signed (words text.now)) }
 {
+    // Kept a loop over the rest: an iterator over the words would carry the same rest, and laws besides.
     let mut numbers = Vec::new(heap);
     let mut rest = text;
     while let Some((word, after)) = next_word(rest) {

@@ -31,10 +31,7 @@ pub(crate) enum Question<'a> {
 fn two_bytes(a: i64, b: i64) -> Option<(u8, u8)>
     ensures { result ≡ two_bytes a b }
 {
-    match (byte(a), byte(b)) {
-        (Some(first), Some(second)) => Some((first, second)),
-        _ => None,
-    }
+    Some((byte(a)?, byte(b)?))
 }
 
 // The question about the positions that a word asks.
@@ -54,14 +51,14 @@ fn question_of_two(word: &str, a: i64, b: i64) -> Option<Question<'static>>
     ensures { option_map question_of result ≡ of_two word.now a b }
 {
     match word {
-        "shock" => match two_bytes(a, b) {
-            Some((contract, scenario)) => Some(Question::Shock(contract, scenario)),
-            None => None,
-        },
-        "loss" => match two_bytes(a, b) {
-            Some((subportfolio, scenario)) => Some(Question::Loss(subportfolio, scenario)),
-            None => None,
-        },
+        "shock" => {
+            let (contract, scenario) = two_bytes(a, b)?;
+            Some(Question::Shock(contract, scenario))
+        }
+        "loss" => {
+            let (subportfolio, scenario) = two_bytes(a, b)?;
+            Some(Question::Loss(subportfolio, scenario))
+        }
         "deficit" => Some(Question::Deficit(a, b)),
         "utilisation" => Some(Question::Utilisation(a, b)),
         _ => None,
@@ -72,10 +69,8 @@ fn question_of_two(word: &str, a: i64, b: i64) -> Option<Question<'static>>
 fn question_of_list(numbers: &[i64]) -> Option<Question<'_>>
     ensures { option_map question_of result ≡ of_list numbers.now }
 {
-    match numbers {
-        [count, deficits @ ..] => Some(Question::Greatest(*count, deficits)),
-        _ => None,
-    }
+    let (count, deficits) = numbers.split_first()?;
+    Some(Question::Greatest(*count, deficits))
 }
 
 /// The question that a word asks with numbers.

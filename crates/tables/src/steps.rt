@@ -24,8 +24,8 @@ fn quantity(word: &str, count: u16) -> Option<i32>
     ensures { result ≡ quantity_in word.now count }
 {
     match word {
-        "buy" => Some(count as i32),
-        "sell" => Some(-(count as i32)),
+        "buy" => Some(i32::from(count)),
+        "sell" => Some(-i32::from(count)),
         _ => None,
     }
 }
@@ -34,66 +34,28 @@ fn quantity(word: &str, count: u16) -> Option<i32>
 fn position(contract: i64, quantity: i32, price: i64) -> Option<Position>
     ensures { meant result ≡ position_in contract quantity price }
 {
-    match (byte(contract), u32::try_from(price)) {
-        (Some(contract), Ok(price)) => Position::new(contract, quantity, price),
-        _ => None,
-    }
+    Position::new(byte(contract)?, quantity, u32::try_from(price).ok()?)
 }
 
 // The position that a word says with three numbers.
 fn traded(word: &str, contract: i64, count: i64, price: i64) -> Option<Position>
     ensures { meant result ≡ traded_in word.now contract count price }
 {
-    let Ok(count) = u16::try_from(count) else {
-        return None;
-    };
-    match quantity(word, count) {
-        Some(quantity) => position(contract, quantity, price),
-        None => None,
-    }
-}
-
-// The step that a word says with no number.
-fn clear(word: &str) -> Option<Step>
-    ensures { option_map step_of result ≡ clear_in word.now }
-{
-    match word {
-        "clear" => Some(Step::Clear),
-        _ => None,
-    }
-}
-
-// The step that a word says with two numbers.
-fn price(word: &str, contract: i64, ticks: i64) -> Option<Step>
-    ensures { option_map step_of result ≡ price_in word.now contract ticks }
-{
-    match word {
-        "price" => match (byte(contract), u32::try_from(ticks)) {
-            (Some(contract), Ok(ticks)) => Some(Step::Price(contract, ticks)),
-            _ => None,
-        },
-        _ => None,
-    }
-}
-
-// The step that a word says with three numbers.
-fn trade(word: &str, contract: i64, count: i64, price: i64) -> Option<Step>
-    ensures { option_map step_of result ≡ trade_of (traded_in word.now contract count price) }
-{
-    match traded(word, contract, count, price) {
-        Some(position) => Some(Step::Trade(position)),
-        None => None,
-    }
+    let count = u16::try_from(count).ok()?;
+    position(contract, quantity(word, count)?, price)
 }
 
 /// The step that a word says with numbers.
 pub(crate) fn step_in(word: &str, numbers: &[i64]) -> Option<Step>
     ensures { option_map step_of result ≡ stepped word.now numbers.now }
 {
-    match numbers {
-        [] => clear(word),
-        [contract, ticks] => price(word, *contract, *ticks),
-        [contract, count, ticks] => trade(word, *contract, *count, *ticks),
+    match (word, numbers) {
+        ("clear", []) => Some(Step::Clear),
+        ("price", [contract, ticks]) => Some(Step::Price(
+            byte(*contract)?,
+            u32::try_from(*ticks).ok()?,
+        )),
+        (_, [contract, count, ticks]) => traded(word, *contract, *count, *ticks).map(Step::Trade),
         _ => None,
     }
 }
