@@ -1,5 +1,5 @@
 -- Cells that hold a trade. Assumes nothing.
-use Rattle.std.proofs.Common.{◌≡◌, ℕ, zero, suc, ◌<◌, true, List, [], ◌∷◌, ◌++◌, length, get_or, set, refl, arith}
+use Rattle.std.proofs.Common.{◌≡◌, ℕ, zero, suc, ◌<◌, true, List, [], ◌∷◌, length, get_or, set, refl, arith}
 use Rattle.std.proofs.lemmas.Bool.{and_parts, and_from}
 use Rattle.book.specs.declared.trades.standing.TradeCell.{TradeCell}
 use Rattle.book.specs.declared.trades.standing.TradeCell.TheVariants.{Empty, Unspecified, Specified, Carried}
@@ -7,10 +7,6 @@ use Rattle.book.specs.declared.trades.standing.Change.{Change}
 use Rattle.book.specs.declared.trades.standing.Change.TheVariants.{Specify, Cancel}
 use Rattle.book.specs.Filled.{is_filled, each_filled}
 use Rattle.book.specs.Standings.{cell_after}
-
-pub filled_push : (xs : List TradeCell) (x : TradeCell) → each_filled xs ≡ true → is_filled x ≡ true → each_filled (xs ++ x ∷ []) ≡ true
-filled_push [] x h e = and_from (is_filled x) true e refl
-filled_push (y ∷ xs) x h e = let p = and_parts (is_filled y) (each_filled xs) h in and_from (is_filled y) (each_filled (xs ++ x ∷ [])) p.0 (filled_push xs x p.1 e)
 
 pub filled_at : (xs : List TradeCell) (i : ℕ) (d : TradeCell) → i < length xs → each_filled xs ≡ true → is_filled (get_or xs i d) ≡ true
 filled_at [] i d l h = absurd (omega arith)

@@ -1,5 +1,6 @@
 -- Which cells hold a trade. Assumes nothing.
-use Rattle.std.specs.Prelude.{Bool, true, false, ◌&&◌, List, [], ◌∷◌}
+use Rattle.std.specs.Prelude.{Bool, true, false, List}
+use Rattle.std.specs.List.{list_all}
 use Rattle.book.specs.declared.trades.standing.TradeCell.{TradeCell}
 use Rattle.book.specs.declared.trades.standing.TradeCell.TheVariants.{Empty, Unspecified, Specified, Carried}
 
@@ -10,5 +11,4 @@ is_filled (Specified t c) = true
 is_filled (Carried t c) = true
 
 abbrev pub each_filled : List TradeCell → Bool
-each_filled [] = true
-each_filled (x ∷ xs) = is_filled x && each_filled xs
+each_filled xs = list_all is_filled xs

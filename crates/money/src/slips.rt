@@ -21,7 +21,7 @@ fn part_of(slip: Stub, holder: Holder) -> i64
 }
 
 // What the slips of a holder say together.
-// Kept as a loop: `sum` of an iterator of signed numbers has no bound that is found, and no value that a clause can name.
+// Kept as a loop: by an iterator's `sum` it stayed open that the total fits, since what is known of such sums is of unsigned numbers.
 pub(crate) fn standing(slips: &[Stub], holder: Holder) -> i64
     requires { length slips.now ≤ 32 }
     ensures value { result ≡ amounts_of (map slip_in slips.now) (holder_of holder) }

@@ -39,7 +39,7 @@ fn is_short<M: ScenarioModel>(day: &Day<M>, stub: Stub) -> bool
     };
     match (day.book.client(client), day.need_of(client)) {
         (Some(row), Some(need)) => leaves_less(row, need, stub.amount),
-        _ => false,
+        _ => true,
     }
 }
 
@@ -49,8 +49,7 @@ fn trader_of(book: &Book, holder: Holder) -> Option<u8>
 {
     match holder {
         Holder::Client(client) => book.client(client).map(|row| row.trader),
-        Holder::Trader(trader) => u8::try_from(trader).ok(),
-        Holder::Member(trader) => u8::try_from(trader).ok(),
+        Holder::Trader(trader) | Holder::Member(trader) => u8::try_from(trader).ok(),
     }
 }
 
@@ -59,7 +58,7 @@ fn is_uncovered<M: ScenarioModel>(day: &Day<M>, tried: &Day<M>, stub: Stub) -> b
     ensures { no_such_holder (ledger_in day.now.book.now) (holder_of stub.holder) ≡ false → result ≡ (short (M.ScenarioModel.table day.now.model.now) (ledger_in day.now.book.now) (holder_of stub.holder) stub.amount.amount || int_lt (limit (M.ScenarioModel.table tried.now.model.now) (ledger_in tried.now.book.now) (holders_trader (ledger_in day.now.book.now) (holder_of stub.holder))) (pos 0)) }
 {
     let Some(trader) = trader_of(day.book, stub.holder) else {
-        return false;
+        return true;
     };
     is_short(day, stub) || tried.limit_of(trader) < 0
 }
