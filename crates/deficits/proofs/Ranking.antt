@@ -8,12 +8,13 @@ use Rattle.std.proofs.lemmas.Int.{ints, by_lt_z}
 use Rattle.std.proofs.lemmas.Bool.{cond-true, cond-false, true≢false}
 use Rattle.std.proofs.lemmas.Bool.Decides.{nat_tests}
 use Rattle.figures.specs.Sums.{total, placed_in, descending, total_greatest}
+use Rattle.keeper.specs.Order.{ahead_by}
 use Rattle.keeper.specs.Kept.{insert, ranked, kept}
 use Rattle.keeper.specs.Greatest.{Falling}
 use Rattle.keeper.proofs.Kept.{ranked_push}
 use Rattle.keeper.proofs.Greatest.{falling_ranked}
 use Rattle.deficits.specs.declared.Deficit.{Deficit}
-use Rattle.deficits.specs.Ahead.{ahead}
+use Rattle.deficits.specs.Ahead.{by_amount, ahead}
 use Rattle.deficits.specs.Summed.{amounts}
 
 lt_true : (a b : ℤ) → a <ℤ b → lt_z a b ≡ true
@@ -82,6 +83,13 @@ folded_descending [] = refl
 folded_descending (y ∷ ys) = placed_folded y ys [] ∙ ap (placed_in y) (folded_descending ys)
 
 -- ---- the place of a deficit
+-- the same order, said by tests and by `cmp`
+pub by_tests : ahead_by by_amount ≡ ahead
+by_tests i x y = same_test i
+  where
+    same_test : ahead_by by_amount x y ≡ ahead x y
+    same_test = grind (arith, ints, nat_tests)
+
 pub ahead_ranks : IsStrictWeakOrder ahead
 ahead_ranks = record { one_way = λ x y h. grind (arith, ints, nat_tests); chain = λ x y z h k. grind (arith, ints, nat_tests) }
 

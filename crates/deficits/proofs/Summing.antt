@@ -1,9 +1,10 @@
 -- Deficits that can be summed, and their sum as 64 bits hold it. Assumes nothing.
-use Rattle.std.proofs.Common.{◌≡◌, ℕ, zero, suc, ◌+◌, ◌*◌, ◌<◌, ◌≤◌, min, Bool, true, false, cond, ◌&&◌, leb, List, [], ◌∷◌, length, get_or, take, drop, ℤ, pos, ◌+ℤ◌, nat_abs, ◌≤ℤ◌, Some, None, sym, refl, ap, ◌∙◌, add-one, arith, take_all, w64, SFits, to_z, of_z}
+use Rattle.std.proofs.Common.{◌≡◌, ℕ, ◌*◌, ◌≤◌, min, Bool, true, false, cond, ◌&&◌, leb, List, [], ◌∷◌, fold, length, take, ℤ, pos, ◌+ℤ◌, nat_abs, ◌≤ℤ◌, Some, None, Option, sym, refl, ap, subst, arith, w64, SFits}
 use lib.Signed.{le_z}
-use Rattle.std.specs.List.{AllByRecursion}
-use Rattle.std.proofs.ByRecursion.{All-get_or}
-use Rattle.std.proofs.lemmas.List.{length-map, drop_more}
+use Rattle.std.specs.List.{AllByRecursion, list_all}
+use Rattle.std.specs.Option.{option_map, IfSome}
+use Rattle.std.proofs.ByRecursion.{All-take}
+use Rattle.std.proofs.lemmas.List.{length-map, length-take, take-map}
 use Rattle.std.proofs.lemmas.Int.{ints}
 use Rattle.std.proofs.lemmas.Bool.{and_parts, and_from, leb-true, le-leb}
 use Rattle.figures.specs.Sums.{total, total_greatest}
@@ -13,8 +14,9 @@ use Rattle.deficits.specs.declared.Deficit.{Deficit}
 use Rattle.deficits.specs.declared.Picked.{Picked}
 use Rattle.deficits.specs.Ahead.{ahead}
 use Rattle.figures.specs.Chosen.{NoneNegative}
-use Rattle.deficits.specs.Summed.{amounts, most_deficits, most_amount, fair, all_fair, summable, if_summable, picked_of}
+use Rattle.deficits.specs.Summed.{amounts, most_deficits, most_amount, most_sum, fair, all_fair, summable, if_summable, picked_of}
 use Rattle.figures.proofs.Chosen.{total_greatest_most}
+use Rattle.figures.proofs.SignedSums.{total_folded}
 
 -- ---- fair amounts
 abbrev pub Fair : Deficit → Type 0
@@ -44,9 +46,10 @@ pub none_negative : (ds : List Deficit) → AllByRecursion Fair ds → NoneNegat
 none_negative [] a = tt
 none_negative (d ∷ ds) a = (fair_low d.amount a.0, none_negative ds a.1)
 
--- the test at a loop's turn
-pub fair_more : (ds : List Deficit) (i : ℕ) (d : Deficit) → i < length ds → all_fair (amounts (drop i ds)) ≡ fair (get_or ds i d).amount && all_fair (amounts (drop (i + 1) ds))
-fair_more ds i d h = ap (λ l. all_fair (amounts l)) (drop_more ds i d h)
+-- each passes, of the deficits as of the amounts
+pub fair_listed : (ds : List Deficit) → list_all (λ d. fair d.amount) ds ≡ all_fair (amounts ds)
+fair_listed [] = refl
+fair_listed (d ∷ ds) = ap (λ t. fair d.amount && t) (fair_listed ds)
 
 -- ---- deficits that can be summed
 module _ (ds : List Deficit) (e : summable ds ≡ true) where
@@ -66,45 +69,35 @@ pub now_summable : (ds : List Deficit) → length ds ≤ most_deficits → true 
 now_summable ds h e = and_from (leb (length ds) most_deficits) (all_fair (amounts ds)) (le-leb (length ds) most_deficits h) (sym e)
 
 -- an answer is there only for such
-if_some : {A : Type 0} (ds : List Deficit) (x y : A) → Some x ≡ if_summable ds y → (summable ds ≡ true) × (x ≡ y)
-if_some {A} ds x y e = at (summable ds) refl e
+pub if_holds : {A : Type 0} (ds : List Deficit) (r : Option A) (x : A) (P : A → Type 0) → r ≡ if_summable ds x → (summable ds ≡ true → P x) → IfSome r P
+if_holds {A} ds r x P e f = subst (λ o. IfSome o P) (sym e) (at (summable ds) refl)
   where
-    at : (t : Bool) → summable ds ≡ t → Some x ≡ cond t (Some y) None → (summable ds ≡ true) × (x ≡ y)
-    at true h e = (h, cc)
-    at false h e = let z : ◌≡◌ {A = ℕ} 0 1 = cc in absurd (omega arith)
+    at : (t : Bool) → summable ds ≡ t → IfSome (cond t (Some x) None) P
+    at true h = f h
+    at false h = tt
 
 -- the sum of the greatest, as many as n says or as there is room for
-pub picked_sum : (ds : List Deficit) (n m : ℕ) (p : Picked) → Some p ≡ if_summable ds (picked_of m ds) → m ≡ min n most_deficits → (summable ds ≡ true) × (p.sum ≡ total_greatest n (amounts ds))
-picked_sum ds n m p e h =
-    let both = if_some ds p (picked_of m ds) e in
-    let few : length (amounts ds) ≤ most_deficits = omega (arith, length-map ds (λ (d : Deficit). d.amount), summable_few ds both.0) in
-    (both.0, ap (λ (q : Picked). q.sum) both.1 ∙ total_greatest_most n most_deficits m (amounts ds) few h)
+pub picked_sum : (ds : List Deficit) (n m : ℕ) → m ≡ min n most_deficits → option_map (λ (p : Picked). p.sum) (if_summable ds (picked_of m ds)) ≡ if_summable ds (total_greatest n (amounts ds))
+picked_sum ds n m h = at (summable ds) refl
+  where
+    at : (t : Bool) → summable ds ≡ t → option_map (λ (p : Picked). p.sum) (cond t (Some (picked_of m ds)) None) ≡ cond t (Some (total_greatest n (amounts ds))) None
+    at true e = ap Some (total_greatest_most n most_deficits m (amounts ds) (omega (arith, length-map ds (λ (d : Deficit). d.amount), summable_few ds e)) h)
+    at false e = refl
 
--- ---- one more in the sum
-total_suc : (ds : List Deficit) (i : ℕ) (d : Deficit) → i < length ds → total (λ x. x) (amounts (take (suc i) ds)) ≡ total (λ x. x) (amounts (take i ds)) +ℤ (get_or ds i d).amount
-total_suc [] i d h = absurd (omega arith)
-total_suc (x ∷ ds) zero d h = omega (arith, ints)
-total_suc (x ∷ ds) (suc i) d h = omega (arith, ints, total_suc ds i d (omega arith))
+-- ---- the sum of the amounts
+fair_total : (ds : List Deficit) → AllByRecursion Fair ds → nat_abs (total (λ x. x) (amounts ds)) ≤ most_amount * length ds
+fair_total [] a = omega arith
+fair_total (d ∷ ds) a = omega (arith, ints, fair_small d.amount a.0, fair_total ds a.1)
 
-added : (s x : ℤ) (i : ℕ) → nat_abs s ≤ most_amount * i → i < most_deficits → nat_abs x ≤ most_amount
-    → SFits w64 (s +ℤ to_z w64 (of_z w64 x)) × (to_z w64 (of_z w64 (s +ℤ to_z w64 (of_z w64 x))) ≡ s +ℤ x) × (nat_abs (s +ℤ x) ≤ most_amount * (i + 1))
-added s x i h k l = (omega (arith, ints), omega (arith, ints), omega (arith, ints))
+module _ (ds : List Deficit) (e : summable ds ≡ true) where
+  pub amounts_fit : (n : ℕ) → SFits w64 (fold ◌+ℤ◌ (pos 0) (take n (amounts ds)))
+  amounts_fit n =
+      let few : length (take n ds) ≤ most_deficits = omega (arith, length-take n ds, summable_few ds e) in
+      let same : fold ◌+ℤ◌ (pos 0) (take n (amounts ds)) ≡ total (λ x. x) (amounts (take n ds)) = omega (arith, ints, total_folded (pos 0) (take n (amounts ds)), ap (total (λ (x : ℤ). x)) (take-map (λ (d : Deficit). d.amount) n ds)) in
+      let small = fair_total (take n ds) (All-take Fair n ds (summable_fair ds e)) in
+      rw same (omega (arith, ints, small, few))
 
-module _ (ds : List Deficit) (i : ℕ) (d : Deficit) (s : ℤ) (e : summable ds ≡ true) (lt : i < length ds) (is : s ≡ total (λ x. x) (amounts (take i ds))) (small : nat_abs s ≤ most_amount * i) where
-  abbrev next : ℤ
-  next = (get_or ds i d).amount
-
-  more : SFits w64 (s +ℤ to_z w64 (of_z w64 next)) × (to_z w64 (of_z w64 (s +ℤ to_z w64 (of_z w64 next))) ≡ s +ℤ next) × (nat_abs (s +ℤ next) ≤ most_amount * (i + 1))
-  more = added s next i small (omega (arith, summable_few ds e)) (fair_small next (All-get_or Fair ds i d lt (summable_fair ds e)))
-
-  pub adds_fit : SFits w64 (s +ℤ to_z w64 (of_z w64 next))
-  adds_fit = more.0
-
-  pub adds_next : to_z w64 (of_z w64 (s +ℤ to_z w64 (of_z w64 next))) ≡ total (λ x. x) (amounts (take (i + 1) ds))
-  adds_next = more.1 ∙ ap (λ z. z +ℤ next) is ∙ sym (rw add-one (total_suc ds i d lt))
-
-  pub adds_small : nat_abs (to_z w64 (of_z w64 (s +ℤ to_z w64 (of_z w64 next)))) ≤ most_amount * (i + 1)
-  adds_small = rw more.1 more.2
-
-pub adds_all : (ds : List Deficit) (i : ℕ) (s : ℤ) → length ds ≤ i → s ≡ total (λ x. x) (amounts (take i ds)) → s ≡ total (λ x. x) (amounts ds)
-adds_all ds i s h is = is ∙ ap (λ l. total (λ (x : ℤ). x) (amounts l)) (take_all i ds h)
+  pub amounts_sum : (r : ℤ) → r ≡ fold ◌+ℤ◌ (pos 0) (amounts ds) → (r ≡ total (λ x. x) (amounts ds)) × (nat_abs r ≤ most_sum)
+  amounts_sum r is =
+      let same : r ≡ total (λ x. x) (amounts ds) = omega (arith, ints, is, total_folded (pos 0) (amounts ds)) in
+      (same, omega (arith, ints, same, fair_total ds (summable_fair ds e), summable_few ds e))

@@ -2,16 +2,20 @@
 
 #![tactic(auto)]
 
-ghost use Rattle.std.specs.Prelude.{◌≡◌, ◌≤◌, true, length, take, IfSome, MatchOption, unsigned_abs};
+ghost use Rattle.std.specs.Prelude.{◌≡◌, ◌≤◌, true, false, length, take, IfSome, MatchOption, unsigned_abs};
+ghost use Rattle.std.specs.Cmp.{partial_order_from_own_ties};
+ghost use Rattle.std.specs.Cmp.Rules.{comparing};
+ghost use Rattle.std.specs.Ordering.{as_partial_cmp};
 ghost use Rattle.figures.specs.Sums.{total, total_greatest};
 ghost use Rattle.keeper.specs.Kept.{left_out, Keeping};
 ghost use Rattle.keeper.specs.Greatest.{Greatest, OnlyGreatest};
-ghost use Rattle.deficits.specs.Ahead.{ahead};
+ghost use Rattle.deficits.specs.Ahead.{by_amount, ahead};
 ghost use Rattle.figures.specs.Chosen.{GreatestSum, Moves, BoundsChoices, ReachedByChoice, MovesWithEntry};
 ghost use Rattle.deficits.specs.Summed.{amounts, most_deficits, most_sum, fair, all_fair, summable, if_summable, picked_of};
 ghost use Rattle.std.proofs.Common.{rules};
 
 use keeper::{Ranked, keep_greatest};
+use std::cmp::Ordering;
 
 /// The most deficits in one list: one for each client.
 pub const MOST_DEFICITS: usize = 128;
@@ -20,7 +24,7 @@ pub const MOST_DEFICITS: usize = 128;
 pub const MOST_AMOUNT: i64 = 50_000_000_000_000_000;
 
 /// What a client lacks.
-#[derive(Clone, Copy)]
+#[derive(Clone, Copy, Debug, Default, PartialEq, Eq)]
 pub struct Deficit {
     /// In centavos.
     pub amount: i64,
@@ -33,29 +37,44 @@ impl Deficit {
     fn is_fair(&self) -> bool
         ensures { result ≡ fair self.now.amount }
     {
-        0 <= self.amount && self.amount <= MOST_AMOUNT
+        (0..=MOST_AMOUNT).contains(&self.amount)
     }
 }
 
-/// The larger amount is ahead, and of equal amounts the lower client.
-impl Ranked for Deficit {
-    ghost before = { ahead };
+/// The larger amount is the greater, and of equal amounts the lower client.
+// Kept by hand: a derive would put the higher client first.
+impl Ord for Deficit {
+    ghost cmp = { by_amount };
 
-    ghost ranks = { Prim.search rules };
+    ghost total = { Prim.search (comparing, rules) };
 
-    ghost apart = { Prim.search rules };
+    ghost matches_partial_cmp = { Prim.search (comparing, rules) };
 
-    fn outranks(&self, other: &Deficit) -> bool {
-        if self.amount != other.amount {
-            self.amount > other.amount
-        } else {
-            self.client < other.client
-        }
+    ghost matches_eq = { Prim.search (comparing, rules) };
+
+    fn cmp(&self, other: &Deficit) -> Ordering {
+        self.amount
+            .cmp(&other.amount)
+            .then(other.client.cmp(&self.client))
     }
+}
+
+impl PartialOrd for Deficit {
+    ghost partial_cmp = { as_partial_cmp by_amount };
+
+    ghost laws = { partial_order_from_own_ties (Prim.search (comparing, rules)) (Prim.search (comparing, rules)) };
+
+    fn partial_cmp(&self, other: &Deficit) -> Option<Ordering> {
+        Some(self.cmp(other))
+    }
+}
+
+impl Ranked for Deficit {
+    ghost apart = { Prim.search rules };
 }
 
 /// How many deficits were picked, and what they sum to.
-#[derive(Clone, Copy)]
+#[derive(Clone, Copy, Debug, PartialEq, Eq)]
 pub struct Picked {
     /// How many cells hold one.
     pub count: usize,
@@ -63,35 +82,21 @@ pub struct Picked {
     pub sum: i64,
 }
 
-/// What a cell holds before a deficit is kept in it.
-const UNFILLED: Deficit = Deficit {
-    amount: 0,
-    client: 0,
-};
-
 /// Whether every amount is 0 to `MOST_AMOUNT`.
 fn are_fair(deficits: &[Deficit]) -> bool
     ensures { result ≡ all_fair (amounts deficits.now) }
 {
-    for deficit in deficits {
-        if !deficit.is_fair() {
-            return false;
-        }
-    }
-    true
+    deficits.iter().all(|deficit| deficit.is_fair())
 }
 
 /// The amounts together.
+// Kept as a clause of each function that gives a sum: callers read the sum as an i64, which a type with the bound would hide.
 fn total_of(deficits: &[Deficit]) -> i64
     requires { summable deficits.now ≡ true }
     ensures value { result ≡ total (λ x. x) (amounts deficits.now) }
     ensures small { unsigned_abs result ≤ most_sum }
 {
-    let mut sum = 0;
-    for deficit in deficits {
-        sum += deficit.amount;
-    }
-    sum
+    deficits.iter().map(|deficit| deficit.amount).sum()
 }
 
 /// Fills `cells` with the greatest of `deficits`, greatest first and of equal amounts the lower client first, and answers how many cells are
@@ -111,7 +116,7 @@ pub fn pick_greatest(deficits: &[Deficit], cells: &mut [Deficit]) -> Option<Pick
     let count = keep_greatest(cells, deficits);
     Some(Picked {
         count,
-        sum: total_of(&cells[0..count]),
+        sum: total_of(&cells[..count]),
     })
 }
 
@@ -123,11 +128,9 @@ pub fn sum_of_greatest(deficits: &[Deficit], n: usize) -> Option<i64>
     ensures moves { IfSome result (λ s. Moves n (amounts deficits.now) s) }
     ensures small { IfSome result (λ s. unsigned_abs s ≤ most_sum) }
 {
-    let mut cells = [UNFILLED; MOST_DEFICITS];
-    match pick_greatest(deficits, &mut cells[0..n.min(MOST_DEFICITS)]) {
-        Some(picked) => Some(picked.sum),
-        None => None,
-    }
+    let mut cells = [Deficit::default(); MOST_DEFICITS];
+    let picked = pick_greatest(deficits, &mut cells[..n.min(MOST_DEFICITS)]);
+    picked.map(|picked| picked.sum)
 }
 
 /// The laws of the sum of the n greatest, for any amounts: it is at least the sum over any choice of at most n of them, where none is below 0;
@@ -165,7 +168,7 @@ mod tests {
 
     #[test]
     fn of_equal_ones_the_lower_client_goes_first(rt: HostRuntime) -> Result<(), Fail> {
-        let mut cells = [lacking(0, 0); 2];
+        let mut cells = [Deficit::default(); 2];
         let picked = pick_greatest(
             &[lacking(7, 9), lacking(8, 5), lacking(7, 3)],
             &mut cells,

@@ -9,3 +9,4 @@ pub mod Rounding
 pub mod Sizes
 pub mod Summing
 pub mod Chosen
+pub mod SignedSums

@@ -1,18 +1,27 @@
 -- What is kept are the greatest of the offers; as many others never are; and the order of the offers does not matter. Assumes nothing.
 use Rattle.std.proofs.Common.{◌≡◌, ℕ, zero, suc, ◌<◌, Bool, true, false, cond, List, [], ◌∷◌, ◌++◌, length, get_or, take, drop, set, fold, sym, refl, ap, ◌∙◌, subst, ⊎_elim, arith}
-use Rattle.std.specs.Cmp.{IsStrictWeakOrder}
+use Rattle.std.specs.Cmp.{IsTotalOrder, IsStrictWeakOrder}
+use Rattle.std.specs.Ordering.{is_lt}
+use Rattle.std.specs.declared.cmp.Ordering.{Ordering}
 use Rattle.std.specs.List.{swap, AllByRecursion}
 use Rattle.std.specs.List.Sorted.{IsPermutation}
 use Rattle.std.proofs.ByRecursion.{All-take, All-drop}
 use Rattle.std.proofs.lemmas.List.{append-nil, take-append-drop, take_at, length-set, get_or-set_same, get_or-set_other}
-use Rattle.std.proofs.lemmas.List.Sorted.{IsPermutation-refl, IsPermutation-cons, IsPermutation-swap, IsPermutation-trans, IsPermutation-keeps}
+use Rattle.std.proofs.lemmas.List.Sorted.{IsPermutation-refl, IsPermutation-sym, IsPermutation-trans, IsPermutation-middle, IsPermutation-append_right, IsPermutation-insert, IsPermutation-keeps}
+use Rattle.std.proofs.lemmas.List.Sums.{fold-append}
+use Rattle.std.proofs.lemmas.List.MinMax.{ranks_by, IsStrictWeakOrder-flip}
 use Rattle.std.proofs.lemmas.Bool.{true≢false, cases_eq}
-use Rattle.keeper.specs.Order.{Apart}
+use Rattle.keeper.specs.Order.{ahead_by, Apart}
 use Rattle.keeper.specs.Kept.{insert, ranked, kept, left_out, Keeping}
 use Rattle.keeper.specs.Greatest.{Falling, Greatest, OnlyGreatest, AnyOrder}
+use Rattle.keeper.proofs.Place.{insert_at_place}
 use Rattle.keeper.proofs.Kept.{all_insert, length_insert, length_ranked, length_kept, take_min}
 
 module _ {A : Type 0} where
+  -- any two records compare
+  pub ahead_ranks : (cmp : A → A → Ordering) → IsTotalOrder cmp → IsStrictWeakOrder (ahead_by cmp)
+  ahead_ranks cmp o = IsStrictWeakOrder-flip (λ x y. is_lt (cmp x y)) (ranks_by o (λ x. x))
+
   all_both : (P Q : A → Type 0) (l : List A) → AllByRecursion P l → AllByRecursion Q l → AllByRecursion (λ x. P x × Q x) l
   all_both P Q [] p q = tt
   all_both P Q (x ∷ l) p q = ((p.0, q.0), all_both P Q l p.1 q.1)
@@ -21,37 +30,16 @@ module _ {A : Type 0} where
   all_unit [] = tt
   all_unit (x ∷ l) = (tt, all_unit l)
 
-  folded_append : (f : List A → A → List A) (l xs ys : List A) → fold f l (xs ++ ys) ≡ fold f (fold f l xs) ys
-  folded_append f l [] ys = refl
-  folded_append f l (x ∷ xs) ys = folded_append f (f l x) xs ys
-
-  -- ---- the same records, in another order
-  shuffled_first : (x y : A) (l : List A) → IsPermutation (x ∷ y ∷ l) (y ∷ x ∷ l)
-  shuffled_first x y l = IsPermutation-swap (x ∷ y ∷ l) (y ∷ x ∷ l) 0 1 (omega arith) (omega arith) refl
-
-  shuffled_past : (x : A) (xs l : List A) → IsPermutation (x ∷ xs ++ l) (xs ++ x ∷ l)
-  shuffled_past x [] l = IsPermutation-refl (x ∷ l)
-  shuffled_past x (y ∷ xs) l = IsPermutation-trans _ (y ∷ x ∷ xs ++ l) _ (shuffled_first x y (xs ++ l)) (IsPermutation-cons y _ _ (shuffled_past x xs l))
-
-  shuffled_behind : (zs xs ys : List A) → IsPermutation xs ys → IsPermutation (zs ++ xs) (zs ++ ys)
-  shuffled_behind [] xs ys s = s
-  shuffled_behind (z ∷ zs) xs ys s = IsPermutation-cons z _ _ (shuffled_behind zs xs ys s)
-
   module _ (b : A → A → Bool) where
     -- ---- each record stays, and none is added
     shuffled_insert : (x : A) (l : List A) → IsPermutation (x ∷ l) (insert b x l)
-    shuffled_insert x [] = IsPermutation-refl (x ∷ [])
-    shuffled_insert x (y ∷ l) = at (shuffled_insert x l) (b x y)
-      where
-        at : IsPermutation (x ∷ l) (insert b x l) → (t : Bool) → IsPermutation (x ∷ y ∷ l) (cond t (x ∷ y ∷ l) (y ∷ insert b x l))
-        at more true = IsPermutation-refl (x ∷ y ∷ l)
-        at more false = IsPermutation-trans _ (y ∷ x ∷ l) _ (shuffled_first x y l) (IsPermutation-cons y _ _ more)
+    shuffled_insert x l = subst (IsPermutation (x ∷ l)) (sym (insert_at_place b x l)) (IsPermutation-insert l _ x)
 
     shuffled_folded : (xs l : List A) → IsPermutation (xs ++ l) (fold (λ t x. insert b x t) l xs)
     shuffled_folded [] l = IsPermutation-refl l
     shuffled_folded (x ∷ xs) l =
-        IsPermutation-trans _ (xs ++ x ∷ l) _ (shuffled_past x xs l)
-        (IsPermutation-trans _ (xs ++ insert b x l) _ (shuffled_behind xs (x ∷ l) (insert b x l) (shuffled_insert x l)) (shuffled_folded xs (insert b x l)))
+        IsPermutation-trans _ (xs ++ x ∷ l) _ (IsPermutation-sym _ _ (IsPermutation-middle xs x l))
+        (IsPermutation-trans _ (xs ++ insert b x l) _ (IsPermutation-append_right xs (x ∷ l) (insert b x l) (shuffled_insert x l)) (shuffled_folded xs (insert b x l)))
 
     pub shuffled_ranked : (xs : List A) → IsPermutation xs (ranked b xs)
     shuffled_ranked xs = subst (λ l. IsPermutation l (ranked b xs)) (append-nil xs) (shuffled_folded xs [])
@@ -202,7 +190,7 @@ module _ {A : Type 0} where
       ranked_greatest xs held left g =
           let ins : List A → A → List A = λ t y. insert b y t in
           sym (ranked_shuffled xs (held ++ left) g.made)
-          ∙ folded_append ins [] held left
+          ∙ fold-append ins [] held left
           ∙ ap (λ l. fold ins l left) (ranked_falling b held g.falls ∙ sym (append-nil held))
           ∙ folded_behind b held [] left g.beaten
 

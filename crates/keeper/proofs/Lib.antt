@@ -1,3 +1,3 @@
 pub mod Kept
 pub mod Greatest
-mod Pass
+mod Place

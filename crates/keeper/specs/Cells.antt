@@ -1,6 +1,6 @@
 -- What a keeper's cells hold. Assumes nothing.
 use Rattle.std.specs.Prelude.{ℕ, List, length, take}
-use Rattle.keeper.specs.declared.Keeper.{Keeper}
+use Rattle.keeper.specs.declared.lent.Keeper.{Keeper}
 
 abbrev pub cells_of : {A : Type 0} → Keeper A → List A
 cells_of k = k.cells.now

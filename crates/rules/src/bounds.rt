@@ -28,7 +28,7 @@ pub const MOST_AMOUNT: i64 = 1_000_000_000_000_000;
 pub const FARTHEST_VALUE: i64 = 11_000_000_000_000;
 
 /// The bounds of a ledger in one value.
-#[derive(Clone, Copy)]
+#[derive(Clone, Copy, Debug, PartialEq, Eq)]
 pub struct Bounds {
     /// How many traders there may be.
     pub traders: usize,

@@ -1,10 +1,14 @@
 -- The sum of the scenarios: one subportfolio more, and its bounds.
-use Rattle.std.proofs.Common.{◌≡◌, ℕ, zero, suc, ◌+◌, ◌*◌, ◌≤◌, add-one, arith}
+use Rattle.std.proofs.Common.{◌≡◌, ℕ, zero, suc, ◌+◌, ◌*◌, ◌≤◌, map, sum, refl, ap, sym, ◌∙◌, add-one, arith}
+use Rattle.std.specs.List.{range_with_len}
+use Rattle.std.proofs.lemmas.List.FromFn.{sum_by-map-range_with_len_more}
 use Rattle.scenario.specs.Table.{ScenarioTable, Lawful}
 use Rattle.scenario.specs.Counts.{sum_below, all_scenarios}
 
-pub sum_more : (f : ℕ → ℕ) (n : ℕ) → sum_below f (n + 1) ≡ sum_below f n + f n
-sum_more f n = rw add-one
+-- the sum of what f gives of 0 to n - 1
+pub sum_range : (f : ℕ → ℕ) (n : ℕ) → sum (map f (range_with_len 0 n)) ≡ sum_below f n
+sum_range f zero = refl
+sum_range f (suc n) = ap (λ k. sum (map f (range_with_len 0 k))) (sym (add-one n)) ∙ sum_by-map-range_with_len_more (λ x. x) f 0 n n (omega arith) ∙ ap (λ k. k + f n) (sum_range f n)
 
 module _ (t : ScenarioTable) (lawful : Lawful t) where
   -- no subportfolio below n takes the sum past 64 n

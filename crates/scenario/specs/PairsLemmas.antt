@@ -1,8 +1,8 @@
 -- The pair of two lawful tables is lawful.
-use Rattle.std.specs.Prelude.{◌≡◌, ℕ, ◌+◌, ◌-◌, ◌<◌, ◌≤◌, ◌⊎◌, ℤ, pos, negsuc, ◌≤ℤ◌, Some, None, Option, nat_lt, refl}
+use Rattle.std.specs.Prelude.{◌≡◌, ℕ, ◌+◌, ◌-◌, ◌<◌, ◌≤◌, ◌⊎◌, ℤ, pos, negsuc, ◌≤ℤ◌, Some, None, Option, Bool, true, false, cond, is_some, nat_lt, refl}
 use Rattle.std.proofs.Common.{sym, ◌∙◌, ap, inl, inr, arith}
 use Rattle.std.proofs.lemmas.Int.{ints}
-use Rattle.std.proofs.lemmas.Bool.{cond_both, cond-true, cond-false, lt-ltb, le-ltb, cases_lt, ltb-true, ltb-false}
+use Rattle.std.proofs.lemmas.Bool.{cond_both, cond-true, cond-false, lt-ltb, le-ltb, cases_lt, true≢false, ltb-true, ltb-false}
 use Rattle.scenario.specs.Table.{ScenarioTable, Lawful}
 use Rattle.scenario.specs.Pairs.{moved, moved_shock, first_place, first_shock, pair_table}
 
@@ -29,6 +29,15 @@ moved_none n (Some p) x e =
       | inr h ↦ cond-false _ _ _ (le-ltb (n + p.0) 8 h)
     ]
 moved_none n None x e = refl
+
+-- where the moved place is there, the shock is not changed
+pub moved_some : (n : ℕ) (q : Option (ℕ × ℕ)) (x : ℤ) → is_some (moved n q) ≡ true → x ≡ moved_shock n q x
+moved_some n (Some p) x e = at (nat_lt (n + p.0) 8) e
+  where
+    at : (t : Bool) → is_some {T = ℕ × ℕ} (cond t (Some (n + p.0, p.1)) None) ≡ true → x ≡ cond t x (pos 0)
+    at true f = refl
+    at false f = absurd (true≢false (sym f))
+moved_some n None x e = absurd (true≢false (sym e))
 
 -- what holds of a shock and of 0 holds of the moved shock
 moved_both : (P : ℤ → Type 0) (n : ℕ) (q : Option (ℕ × ℕ)) (x : ℤ) → P x → P (pos 0) → P (moved_shock n q x)
@@ -113,11 +122,6 @@ module _ (a b : ScenarioTable) (la : Lawful a) (lb : Lawful b) where
             let l : b.scenarios o.0 ≤ s = rw (lt-ltb k 8 v, le-ltb k a.subportfolios w, x) at h in
             rw f.0 (moved_both (λ z. z ≡ pos 0) a.subportfolios (b.place c) (b.shock c s) (lb.missing_still c o.0 m s o.1 l) refl)
       ]
-
-  -- a place of the second, moved, is a small number
-  pub moved_small : (c k m : ℕ) → Some (k, m) ≡ b.place c → a.subportfolios + k < 16
-  moved_small c k m e =
-      omega (arith, la.few_subportfolios, lb.few_subportfolios, lb.placed_within c k m (sym e))
 
   pub pair_lawful : Lawful (pair_table a b)
   pair_lawful = record {

@@ -9,9 +9,7 @@ pub fn scenario_count<M: ScenarioModel>(model: &M) -> u16
     ensures some { 1 ≤ result }
     ensures few { result ≤ 512 }
 {
-    let mut count = 0;
-    for k in 0..model.subportfolios() {
-        count += u16::from(model.scenarios(k));
-    }
-    count
+    (0..model.subportfolios())
+        .map(|k| u16::from(model.scenarios(k)))
+        .sum()
 }

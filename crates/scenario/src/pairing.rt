@@ -34,10 +34,8 @@ impl<A: ScenarioModel, B: ScenarioModel> ScenarioModel for Pair<A, B> {
     }
 
     fn place(&self, contract: u8) -> Option<(u8, u16)> {
-        if let Some(place) = self.first.place(contract) {
-            return Some(place);
-        }
-        self.moved_place(contract)
+        let known = self.first.place(contract);
+        known.or_else(|| self.moved_place(contract))
     }
 
     fn shock(&self, contract: u8, scenario: u8) -> i64 {
@@ -63,11 +61,7 @@ impl<A: ScenarioModel, B: ScenarioModel> Pair<A, B> {
     {
         let (k, multiplier) = self.second.place(contract)?;
         let place = self.first.subportfolios() + k;
-        if place < MOST_SUBPORTFOLIOS {
-            Some((place, multiplier))
-        } else {
-            None
-        }
+        (place < MOST_SUBPORTFOLIOS).then_some((place, multiplier))
     }
 
     /// The second's shock of a contract, 0 where its place lies beyond. Where the pair keeps all the second's
@@ -75,12 +69,10 @@ impl<A: ScenarioModel, B: ScenarioModel> Pair<A, B> {
     fn moved_shock(&self, contract: u8, scenario: u8) -> i64
         ensures { result ≡ moved_shock (A.ScenarioModel.table self.now.first).subportfolios ((B.ScenarioModel.table self.now.second).place contract) ((B.ScenarioModel.table self.now.second).shock contract scenario) }
     {
-        if self.keeps_all() {
-            return self.second.shock(contract, scenario);
-        }
-        match self.moved_place(contract) {
-            Some(_) => self.second.shock(contract, scenario),
-            None => 0,
+        if self.keeps_all() || self.moved_place(contract).is_some() {
+            self.second.shock(contract, scenario)
+        } else {
+            0
         }
     }
 }

@@ -1,22 +1,24 @@
-use Rattle.std.proofs.Common.{Some, None, sym, ap, ◌∙◌, arith, w64, SFits, rules}
+use Rattle.std.proofs.Common.{◌≡◌, ◌∙◌, refl, ap, arith, rules}
+use Rattle.std.specs.Option.{option_map}
 use Rattle.std.proofs.lemmas.List.{length-take}
-use Rattle.std.proofs.lemmas.Int.{to_z-of_z}
-use Rattle.std.proofs.lemmas.Bool.{cond-true}
-use Rattle.deficits.specs.Summed.{amounts, summable}
+use Rattle.figures.specs.Sums.{total_greatest}
+use Rattle.figures.specs.Chosen.{GreatestSum, Moves}
 use Rattle.figures.proofs.Chosen.{greatest_sum, greatest_moves_by}
-use Rattle.deficits.proofs.Summing.{picked_sum, summable_fair, none_negative}
+use Rattle.deficits.specs.declared.Picked.{Picked}
+use Rattle.deficits.specs.Summed.{amounts, if_summable}
+use Rattle.deficits.proofs.Summing.{if_holds, picked_sum, summable_fair, none_negative}
 use Rattle.deficits.proofs.sum_of_greatest.Goals as goal
 
-pub returns-in-Some : goal.returns-in-Some
-returns-in-Some c =
+pub returns : goal.returns
+returns c =
     let ds = c.args.deficits.now in
-    let p = c.in-Some.picked in
-    let f : SFits w64 p.sum = search rules in
-    let bits = to_z-of_z w64 p.sum f in
-    let is = picked_sum ds c.args.n _ p c.in-Some.ensures.value (simp length-take (omega (arith, c.min.ensures))) in
+    let n = c.args.n in
+    let total = total_greatest n (amounts ds) in
+    let of_picked : c.map.result ≡ option_map (λ (p : Picked). p.sum) c.pick_greatest-picked.result = search rules in
+    let value : c.map.result ≡ if_summable ds total = of_picked ∙ ap (option_map (λ (p : Picked). p.sum)) c.pick_greatest-picked.ensures.value ∙ picked_sum ds n _ (simp length-take (omega (arith, c.min.ensures))) in
     record {
-      value = ap Some (bits ∙ is.1) ∙ sym (cond-true (summable ds) _ None is.0);
-      greatest = greatest_sum c.args.n (amounts ds) _ (none_negative ds (summable_fair ds is.0)) (bits ∙ is.1);
-      moves = greatest_moves_by c.args.n (amounts ds) _ (bits ∙ is.1);
-      small = rw bits c.in-Some.ensures.small;
+      value = value;
+      greatest = if_holds ds _ total (GreatestSum n (amounts ds)) value (λ e. greatest_sum n (amounts ds) total (none_negative ds (summable_fair ds e)) refl);
+      moves = if_holds ds _ total (Moves n (amounts ds)) value (λ e. greatest_moves_by n (amounts ds) total refl);
+      small = search rules;
     }

@@ -1,22 +1,22 @@
-use Rattle.std.proofs.Common.{pos, arith}
-use Rattle.deficits.proofs.Summing.{adds_fit, adds_next, adds_small, adds_all, summable_few}
+use Rattle.std.proofs.Common.{◌≡◌, ◌∙◌, ◌+ℤ◌, fold, pos, w64, rules}
+use Rattle.std.proofs.lemmas.Int.{to_z-of_z}
+use Rattle.deficits.specs.Summed.{amounts}
+use Rattle.std.proofs.lemmas.Iterator.{YieldsList-from_slice, YieldsList-from_map}
+use Rattle.std.proofs.lemmas.Iterator.Adapters.{total_from_yields_List}
+use Rattle.figures.proofs.SignedSums.{sum_fits}
+use Rattle.deficits.proofs.Summing.{amounts_fit, amounts_sum}
 use Rattle.deficits.proofs.total_of.Goals as goal
 
-pub overflow_add-sum : goal.overflow_add-sum
-overflow_add-sum c =
-    let l = c.loop-deficit in
-    adds_fit c.args.deficits.now l.deficit-index record { amount = pos 0; client = 0 } _ c.requires c.loop-deficit-test.true l.invariant.0 l.invariant.1
-
-pub loop-deficit-preserved : goal.loop-deficit-preserved
-loop-deficit-preserved c =
-    let l = c.loop-deficit in (
-      adds_next c.args.deficits.now l.deficit-index record { amount = pos 0; client = 0 } _ c.requires c.loop-deficit-test.true l.invariant.0 l.invariant.1,
-      adds_small c.args.deficits.now l.deficit-index record { amount = pos 0; client = 0 } _ c.requires c.loop-deficit-test.true l.invariant.0 l.invariant.1,
-    )
+pub sum-requires-clause-fits : goal.sum-requires-clause-fits
+sum-requires-clause-fits c =
+    let ds = c.args.deficits.now in
+    sum_fits (amounts ds) (YieldsList-from_map _ (λ d. d.amount) (YieldsList-from_slice ds cc) c.map.ensures.closure (λ x r q k. search rules)) (amounts_fit ds c.requires)
 
 pub returns : goal.returns
 returns c =
-    record {
-      value = adds_all c.args.deficits.now c.loop-deficit.deficit-index _ c.loop-deficit-test.false c.loop-deficit.invariant.0;
-      small = omega (arith, c.loop-deficit.invariant.1, summable_few c.args.deficits.now c.requires);
-    }
+    let ds = c.args.deficits.now in
+    let bits = to_z-of_z w64 c.sum.result (record { sfits = c.sum.type_inv }) in
+    let is : c.sum.result ≡ fold ◌+ℤ◌ (pos 0) (amounts ds) =
+    total_from_yields_List ◌+ℤ◌ (pos 0) c.sum.result c.sum.ensures.ran (YieldsList-from_map _ (λ d. d.amount) (YieldsList-from_slice ds cc) c.map.ensures.closure (λ x r q k. search rules)) in
+    let sum = amounts_sum ds c.requires c.sum.result is in
+    record { value = bits ∙ sum.0; small = rw bits sum.1 }
