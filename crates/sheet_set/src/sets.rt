@@ -12,6 +12,7 @@ pub type Four = Pair<Two, Two>;
 /// Eight sheets as one model.
 pub type Eight = Pair<Four, Four>;
 
+// Kept a count beside a nest of fixed size: no call of a session allocates.
 /// The sheets read so far, the places that are not filled yet being empty sheets.
 #[derive(Drop)]
 pub struct SheetSet {

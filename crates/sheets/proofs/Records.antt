@@ -1,6 +1,5 @@
 -- The bounds of the shocks of an accepted file.
-use Rattle.std.proofs.Common.{◌≡◌, ℕ, zero, suc, ◌+◌, ◌*◌, ◌<◌, ◌≤◌, cond, ◌&&◌, eqb, ltb, List, ℤ, pos, negsuc, ◌+ℤ◌, ◌*ℤ◌, neg_ℤ, nat_abs, sym, refl, ap, ◌∙◌, subst, add-one, arith, w64, SFits, to_z, of_z}
-use native.Mathlib.Numerals.{unary_clauses}
+use Rattle.std.proofs.Common.{◌≡◌, ℕ, zero, suc, ◌+◌, ◌*◌, ◌<◌, ◌≤◌, cond, ◌&&◌, eqb, ltb, List, ℤ, pos, negsuc, ◌+ℤ◌, ◌*ℤ◌, nat_abs, sym, refl, ap, ◌∙◌, subst, add-one, arith, w64, SFits, to_z, of_z}
 use lib.IntN.{*ℤ-zero}
 use Rattle.std.proofs.lemmas.Nat.{mul-le}
 use Rattle.std.proofs.lemmas.Int.{ints, to_z-of_z}
@@ -13,15 +12,8 @@ use Rattle.inspection.proofs.Accepted.{Passes, few_factors, small_exposure, smal
 use Rattle.sheets.specs.Sheets.{total_below, moved_by_factors, record_shock}
 use Rattle.sheets.specs.Cells.{shock_cell}
 
-abs_neg : (k : ℕ) → nat_abs (neg_ℤ (pos k)) ≡ k
-abs_neg zero = refl
-abs_neg (suc k) = refl
-
 abs_mul : (x y : ℤ) → nat_abs (x *ℤ y) ≡ nat_abs x * nat_abs y
-abs_mul (pos m) (pos n) = refl
-abs_mul (pos m) (negsuc n) = abs_neg (m * suc n)
-abs_mul (negsuc m) (pos n) = abs_neg (suc m * n)
-abs_mul (negsuc m) (negsuc n) = refl
+abs_mul x y = grind (arith, ints)
 
 -- an exposure times a factor's shock
 pub part_small : (x y : ℤ) → nat_abs x ≤ 12500000 → nat_abs y ≤ 10000 → nat_abs (x *ℤ y) ≤ 125000000000
@@ -54,19 +46,21 @@ unfolding total_below
 total_small g m zero h = omega arith
 total_small g m (suc n) h =
     let a = total_small g m n (λ f l. h f (omega arith)) in
-    let s = abs_add (total_below n g) (g n) (m * n) m a (h n (omega arith)) in
-    let e : m * suc n ≡ m * n + m = simp unary_clauses in
-    subst (λ (x : ℕ). nat_abs (total_below n g +ℤ g n) ≤ x) (sym e) s
+    let last = h n (omega arith) in
+    omega (arith, ints)
 
 total_zero : (g : ℕ → ℤ) (n : ℕ) → ((f : ℕ) → f < n → g f ≡ pos 0) → total_below n g ≡ pos 0
 unfolding total_below
 total_zero g zero h = refl
-total_zero g (suc n) h = λ i. total_zero g n (λ f l. h f (omega arith)) i +ℤ h n (omega arith) i
+total_zero g (suc n) h =
+    let before = total_zero g n (λ f l. h f (omega arith)) in
+    let last = h n (omega arith) in
+    omega (arith, ints)
 
 -- to the nearest, a total within 10 ^ 12 is within 10 ^ 8
 pub nearest_small : (z : ℤ) → nat_abs z ≤ 1000000000000 → nat_abs (nearest parts z) ≤ 100000000
 nearest_small (pos n) h = omega arith
-nearest_small (negsuc n) h = rw abs_neg (omega arith)
+nearest_small (negsuc n) h = omega (arith, ints)
 
 module _ (b : List ℕ) (p : Passes b) where
   pub total_within : kind b ≡ 1 → (j s : ℕ) → j < contracts b → s < scenarios b → nat_abs (moved_by_factors b j s) ≤ 1000000000000
