@@ -1,5 +1,5 @@
 //! A lot that is entered as a trade.
-ghost use Rattle.std.specs.Prelude.{◌≡◌, ◌≤◌, Ok, Err};
+ghost use Rattle.std.specs.Prelude.{◌≡◌, Ok, Err};
 ghost use Rattle.figures.specs.Positions.{meant, position_of};
 ghost use Rattle.refusals.specs.Numbers.{refusal_of};
 ghost use Rattle.orders.specs.Meant.{side_of};
@@ -11,22 +11,28 @@ ghost use Rattle.entries.specs.Lots.{lot_position, lot_cause, standing_for, LotE
 
 use book::books::Book;
 use book::trades::standing::Trade;
-use figures::bounds::{MOST_PRICE, MOST_QUANTITY};
 use figures::position::Position;
 use orders::{Lot, Side};
 use refusals::Refusal;
 use rules::bounds::MOST_TRADES;
 
+// How many were bought, negative for a sale.
+fn signed_quantity(side: Side, quantity: u16) -> i32
+    ensures { result ≡ signed (side_of side) quantity }
+{
+    match side {
+        Side::Buy => i32::from(quantity),
+        Side::Sell => -i32::from(quantity),
+    }
+}
+
 // What was traded of a known contract. `None` where the quantity or the price is outside its range.
 fn position_of_lot(contract: u8, lot: Lot) -> Option<Position>
     ensures { meant result ≡ made_if (is_lot lot.quantity lot.price) (lot_position contract lot) }
 {
-    let bought = i32::try_from(lot.quantity).ok()?;
-    let quantity = match lot.side {
-        Side::Buy => bought,
-        Side::Sell => -bought,
-    };
-    Position::new(contract, quantity, u32::try_from(lot.price).ok()?)
+    let quantity = u16::try_from(lot.quantity).ok()?;
+    let price = u32::try_from(lot.price).ok()?;
+    Position::new(contract, signed_quantity(lot.side, quantity), price)
 }
 
 // What was traded of a known contract, or why it cannot be entered.

@@ -1,8 +1,7 @@
 //! The collateral of holders, in the rows of clients and traders.
-ghost use Rattle.std.specs.Prelude.{◌≡◌, ◌≤◌, true, false, get_or, ℤ, pos, ◌+ℤ◌, ◌≤ℤ◌, MatchOption, int_lt, slice_index_or, slice_set, unsigned_abs};
+ghost use Rattle.std.specs.Prelude.{◌≡◌, true, false, ℤ, ◌+ℤ◌, MatchOption};
 ghost use Rattle.orders.specs.Meant.{holder_of};
-ghost use Rattle.rules.specs.Bounds.{most_amount};
-ghost use Rattle.rules.specs.Ledger.{Ledger, no_client, no_trader, more, more_own, more_favour, collateral_of, moved};
+ghost use Rattle.rules.specs.Ledger.{Ledger, more, collateral_of, moved};
 ghost use Rattle.rules.specs.Causes.{no_such_holder, is_amount};
 ghost use Rattle.book.specs.Ledgers.{ledger_in};
 ghost use Rattle.book.specs.Means.{clients_in, traders_in};

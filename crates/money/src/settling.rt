@@ -1,6 +1,5 @@
 //! Settlement amounts, the settlement window, and the needs at the opening.
-ghost use Rattle.std.specs.Prelude.{◌≡◌, ◌<◌, map, length, get_or, pos, slice_index_or};
-ghost use Rattle.cells.specs.Listed.{listed};
+ghost use Rattle.std.specs.Prelude.{◌≡◌, ◌<◌, map, get_or, pos};
 ghost use Rattle.scenario.specs.Table.{ScenarioTable};
 ghost use Rattle.orders.specs.Replied.{answered};
 ghost use Rattle.rules.specs.Answers.{Answered, accepted};

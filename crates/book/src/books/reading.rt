@@ -1,9 +1,9 @@
 //! How a book is begun and read.
-ghost use Rattle.std.specs.Prelude.{◌≡◌, ◌<◌, ◌≤◌, true, [], map, length, MatchOption};
+ghost use Rattle.std.specs.Prelude.{◌≡◌, ◌<◌, ◌≤◌, true, map, length, MatchOption};
 ghost use Rattle.rules.specs.Ledger.{empty_ledger, trader_of, client_of, trade_of};
 ghost use Rattle.book.specs.Filled.{is_filled, each_filled};
 ghost use Rattle.book.specs.Ledgers.{ledger_in};
-ghost use Rattle.book.specs.Means.{trader_in, client_in, trade_in, traders_in, clients_in, slips_in};
+ghost use Rattle.book.specs.Means.{trader_in, client_in, trade_in};
 
 use crate::books::Book;
 use crate::clients::Client;
