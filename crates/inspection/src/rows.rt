@@ -61,6 +61,7 @@ fn has_factors_within(file: &[u8], limit: u32, s: u16) -> bool
     (0..factor_count(file)).all(|f| is_within(limit, factor_shock_at(file, s, f)))
 }
 
+// Kept beside `has_factors_within`: each says one definition of the rules, and goes over the row that its kind has.
 fn has_series_within(file: &[u8], limit: u32, j: u16) -> bool
     ensures { result ≡ series_within file.now limit j }
 {

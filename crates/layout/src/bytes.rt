@@ -22,6 +22,7 @@ pub(crate) fn u16_at(file: &[u8], at: usize) -> u16
     u16::from_le_bytes(bytes_at(file, at))
 }
 
+// Kept beside `u16_at`: `from_le_bytes` is a function of each number type, and of no trait of std.
 /// The unsigned number of four bytes that starts at `at`.
 pub(crate) fn u32_at(file: &[u8], at: usize) -> u32
     ensures { result ≡ u32_at file.now at }

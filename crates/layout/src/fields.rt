@@ -8,6 +8,7 @@ ghost use Rattle.layout.specs.Fields.{kind, contracts, scenarios, factors, contr
 use crate::bytes::{i32_at, u16_at, u32_at};
 use crate::kinds::Kind;
 
+// Kept a function for each field of the header: its name says what stands there, and an offset as a parameter would not.
 /// The kind number.
 pub fn kind_of(file: &[u8]) -> u16
     ensures { result ≡ kind file.now }
@@ -129,6 +130,7 @@ pub fn factor_shock_at(file: &[u8], s: u16, f: u16) -> i32
     i32_at(file, scenario_start(file) as usize + 4 * word)
 }
 
+// Kept beside `factor_shock_at`: a sheet of series has a row for each contract, one of factors for each scenario.
 /// The shock of record `j` in scenario `s` of a sheet of series, in centavos.
 pub fn series_shock_at(file: &[u8], j: u16, s: u16) -> i32
     ensures { result ≡ series_shock file.now j s }

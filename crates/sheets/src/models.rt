@@ -104,6 +104,7 @@ impl ScenarioModel for FactorSheet {
     }
 }
 
+// Kept beside the series, whose place is the same: its scenarios and shocks are not.
 impl ScenarioModel for StrikeSheet {
     ghost table = { strike_table };
 

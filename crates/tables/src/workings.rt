@@ -64,6 +64,7 @@ fn last_mark(market: &Market<Sheet>, positions: &[Position]) -> Option<i64>
     market.mark(positions.last()?)
 }
 
+// Kept beside `FromStr`: nobody asks why a word writes no figure, and an error type would have to say it.
 // The figure that a word writes.
 fn figure_of_word(word: &str) -> Option<Figure>
     ensures { result ≡ word_figure word.now }

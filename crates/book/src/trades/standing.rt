@@ -27,6 +27,7 @@ pub enum TradeCell {
     Carried(Trade, u8),
 }
 
+// Kept as what is asked, beside the state: a trade matches the two together.
 /// What can be asked of a trade.
 #[derive(Clone, Copy, Debug, PartialEq, Eq)]
 pub enum Change {
