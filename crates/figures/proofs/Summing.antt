@@ -1,9 +1,10 @@
 -- A row of sums, one sum more at a time. Assumes nothing.
-use Rattle.std.proofs.Common.{◌≡◌, ℕ, ◌+◌, ◌-◌, ◌<◌, ◌≤◌, List, [], length, get_or, take, drop, ◌++◌, set, replicate, ℤ, pos, ◌+ℤ◌, nat_abs, refl, ap, ◌∙◌, inl, inr, arith}
+use Rattle.std.proofs.Common.{◌≡◌, ℕ, ◌+◌, ◌-◌, ◌<◌, ◌≤◌, List, [], length, get_or, take, drop, ◌++◌, set, replicate, ℤ, pos, ◌+ℤ◌, nat_abs, refl, ap, ◌∙◌, inl, inr, arith, zero, suc, ◌*◌, ◌∷◌, mul-suc}
 use Rattle.std.proofs.lemmas.List.{get_or-set_same, get_or-set_other, get_or-replicate, get_or_past, get_or-take, get_or_append_left, get_or-append_right, get_or-drop, length-replicate, length-take}
 use Rattle.std.proofs.lemmas.Int.{ints}
 use Rattle.std.proofs.lemmas.Bool.{cases_eq, cases_lt}
 use Rattle.figures.specs.Losses.{at, Added, Holds}
+use Rattle.figures.specs.Sums.{total}
 
 grows : (x y z : ℤ) (b : ℕ) → z ≡ x +ℤ y → nat_abs y ≤ b → nat_abs z ≤ nat_abs x + b
 grows x y z b e h = omega (arith, ints)
@@ -105,3 +106,13 @@ holds_same xs n f g b c o e l =
 
 pub front_long : (w n : ℕ) → n ≤ w → length (take n (replicate w (pos 0))) ≡ n
 front_long w n h = omega (arith, length-take n (replicate {A = ℤ} w (pos 0)), length-replicate {A = ℤ} w (pos 0))
+
+-- the sum of the first of some sums
+pub firsts_small : (xs : List ℤ) (b n : ℕ) → ((k : ℕ) → nat_abs (at xs k) ≤ b) → nat_abs (total (λ x. x) (take n xs)) ≤ b * length xs
+firsts_small xs b zero h = omega arith
+firsts_small [] b (suc n) h = omega arith
+firsts_small (x ∷ xs) b (suc n) h =
+    both_small x (total (λ (y : ℤ). y) (take n xs)) (h 0) (firsts_small xs b n (λ k. h (suc k)))
+  where
+    both_small : (y z : ℤ) → nat_abs y ≤ b → nat_abs z ≤ b * length xs → nat_abs (y +ℤ z) ≤ b * suc (length xs)
+    both_small y z u v = omega (arith, ints, mul-suc b (length xs))

@@ -75,6 +75,7 @@ pub(crate) fn greatest_by_row<M: ScenarioModel>(
 ) -> Rows<i64, 8>
     ensures { listed result ≡ map (λ k. greatest_below ((M.ScenarioModel.table model.now).scenarios k) (at (slice_index_or rows.now k []))) (those_below (M.ScenarioModel.table model.now).subportfolios (λ _. true)) }
 {
+    // Kept by number: a model is asked for one subportfolio after the other.
     let mut greatest = Rows::new();
     for k in 0..model.subportfolios() {
         let _ = greatest.push(greatest_among(&rows[k as usize], model.scenarios(k)));
@@ -87,9 +88,5 @@ pub(crate) fn sum_of(figures: &Rows<i64, 8>) -> i64
     requires { (k : ℕ) → unsigned_abs (at (listed figures.now) k) ≤ 11264000000000000 }
     ensures { result ≡ total (λ x. x) (listed figures.now) }
 {
-    let mut sum = 0;
-    for figure in figures.as_slice() {
-        sum += *figure;
-    }
-    sum
+    figures.as_slice().iter().copied().sum()
 }

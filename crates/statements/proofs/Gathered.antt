@@ -42,6 +42,3 @@ module _ (p : Trade → Bool) (cells : List TradeCell) (i : ℕ) (cell : TradeCe
   pub collect_no : (found : List Kept) → p (trade_in cell) ≡ false → positions_of found ≡ collected p (take i cells) → positions_of found ≡ collected p (take (i + 1) cells)
   collect_no found t inv =
       inv ∙ sym (next ∙ ap (λ (l : List Trade). collected p (take i cells) ++ map (λ (t : Trade). t.position) l) (cond-false (p (trade_in cell)) (trade_in cell ∷ []) [] t) ∙ append-nil (collected p (take i cells)))
-
-pub collect_all : (p : Trade → Bool) (cells : List TradeCell) (i : ℕ) (found : List Kept) → length cells ≤ i → positions_of found ≡ collected p (take i cells) → positions_of found ≡ collected p cells
-collect_all p cells i found h inv = inv ∙ ap (collected p) (take_all i cells h)

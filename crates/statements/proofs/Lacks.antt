@@ -40,17 +40,3 @@ lacks_meant (x ∷ xs) = ap (λ (l : List ℤ). x.deficit ∷ l) (lacks_meant xs
 pub lacking_of : (m : ScenarioTable) (l : Ledger) (cs : List ℕ) → map (λ (f : ClientFigures). f.lacking) (map (client_figures m l) cs) ≡ map (deficit_of m l) cs
 lacking_of m l [] = refl
 lacking_of m l (c ∷ cs) = ap (λ (ds : List ℤ). deficit_of m l c ∷ ds) (lacking_of m l cs)
-
--- one more at a loop's turn
-module _ (xs : List Kept) (i : ℕ) (x : Kept) (h : i < length xs) (e : x ≡ get_or xs i x) (found : List Deficit) (inv : amounts found ≡ lacks (take i xs)) where
-  pub lacks_room : length xs ≤ 128 → ltb (length found) 128 ≡ true
-  lacks_room few =
-      let same : length (amounts found) ≡ length (lacks (take i xs)) = ap length inv in
-      lt-ltb (length found) 128 (omega (arith, length-map found (λ (d : Deficit). d.amount), length-map (take i xs) (λ (c : Kept). c.deficit), length-take i xs))
-
-  pub lacks_more : (more : List Deficit) (d : Deficit) → d.amount ≡ x.deficit → more ≡ found ++ d ∷ [] → amounts more ≡ lacks (take (i + 1) xs)
-  lacks_more more d u w =
-      ap amounts w
-      ∙ map_push (λ (d : Deficit). d.amount) found d
-      ∙ (λ j. inv j ++ (u ∙ ap (λ (c : Kept). c.deficit) e) j ∷ [])
-      ∙ sym (map_more (λ (c : Kept). c.deficit) xs i x h)

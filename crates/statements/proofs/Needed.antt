@@ -13,17 +13,3 @@ module _ (m : ScenarioTable) (l : Ledger) where
   -- 0 where there is no such client
   abbrev pub need_at : ℕ → ℤ
   need_at c = unwrap_or (asked_need c) (pos 0)
-
-  pub need_known : (c : ℕ) → c < length l.clients → need_at c ≡ need_of m l c
-  need_known c h = ap (λ (o : Option ℤ). unwrap_or o (pos 0)) (cond-true (ltb c (length l.clients)) (Some (need_of m l c)) None (lt-ltb c (length l.clients) h))
-
-  pub need_past : (c : ℕ) → length l.clients ≤ c → need_at c ≡ pos 0
-  need_past c h = ap (λ (o : Option ℤ). unwrap_or o (pos 0)) (cond-false (ltb c (length l.clients)) (Some (need_of m l c)) None (le-ltb c (length l.clients) h))
-
--- a row that is filled from the front, one place more
-pub filled_more : (f : ℕ → ℤ) (xs : List ℤ) (i : ℕ) (z : ℤ) → i < length xs → z ≡ f i → ((k : ℕ) → k < i → get_or xs k (pos 0) ≡ f k) → (k : ℕ) → k < i + 1 → get_or (set xs i z) k (pos 0) ≡ f k
-filled_more f xs i z h e old k u =
-    elim (cases_eq k i) [
-      | inl q ↦ rw q (get_or-set_same xs i z (pos 0) h ∙ e)
-      | inr q ↦ get_or-set_other xs i k z (pos 0) q ∙ old k (omega (arith, q))
-    ]

@@ -11,7 +11,7 @@ use crate::collecting::{OpenFor, collect};
 use crate::days::Day;
 use book::traders::Trader;
 use cells::rows::Rows;
-use deficits::{Deficit, MOST_DEFICITS, sum_of_greatest};
+use deficits::{Deficit, sum_of_greatest};
 use figures::positions::Positions;
 use scenario::ScenarioModel;
 
@@ -19,11 +19,7 @@ use scenario::ScenarioModel;
 fn deficits_of(clients: &Rows<ClientFigures, 128>) -> Rows<Deficit, 128>
     ensures { amounts (listed result) ≡ map (λ c. c.deficit) (listed clients.now) }
 {
-    let nothing = Deficit {
-        amount: 0,
-        client: 0,
-    };
-    let mut found = Rows::of([nothing; MOST_DEFICITS]);
+    let mut found = Rows::new();
     for client in clients.as_slice() {
         let _ = found.push(Deficit {
             amount: client.deficit,
@@ -41,6 +37,7 @@ pub(crate) fn specified_risk(clients: &Rows<ClientFigures, 128>, defaults: u8) -
     let deficits = deficits_of(clients);
     match sum_of_greatest(deficits.as_slice(), defaults as usize) {
         Some(sum) => sum,
+        // Kept: what a client lacks is within a deficit's bounds by its own type, and a list of deficits takes any amounts.
         None => unreachable(),
     }
 }

@@ -88,6 +88,7 @@ impl<'a, M: ScenarioModel> Day<'a, M> {
         ensures { map figures_in (listed result) ≡ map (client_figures (M.ScenarioModel.table self.now.model.now) (ledger_in self.now.book.now)) (clients_of (ledger_in self.now.book.now) trader) }
     {
         let mut found = no_figures();
+        // Kept by number: a book tells of one client after the other.
         for number in 0..self.book.client_count() {
             if let Some(figures) = self.figures_if(trader, number) {
                 let _ = found.push(figures);

@@ -5,17 +5,10 @@ use Rattle.figures.specs.Positions.{position_of, positions_of}
 use Rattle.book.specs.Filled.{is_filled}
 use Rattle.book.specs.Means.{trade_in}
 use Rattle.book.proofs.Fills.{filled_at}
-use Rattle.statements.proofs.Gathered.{collect_room, collect_yes, collect_no, collect_all}
+use Rattle.statements.proofs.Gathered.{collect_room, collect_yes, collect_no}
 use Rattle.statements.proofs.Picking.{some_if, none_if}
 use Rattle.statements.proofs.collecting.collect.Goals as goal
 use Rattle.statements.proofs.collecting.collect.Goals.{in-Some, in_default}
-
-pub position_in-requires : goal.position_in-requires
-position_in-requires g c =
-    ap is_filled c.cell-item.is ∙ filled_at c.args.cells.now c.loop-cell.cell-index c.cell-item.result c.loop-cell-test.true c.requires.1
-
-pub loop-cell-init : goal.loop-cell-init
-loop-cell-init g c = ap positions_of c.of-found.ensures
 
 pub loop-cell-preserved : goal.loop-cell-preserved
 loop-cell-preserved g c =
@@ -34,6 +27,3 @@ loop-cell-preserved g c =
           ap (λ f. positions_of (listed f)) w.found-is
           ∙ collect_no p cells l.cell-index cell c.loop-cell-test.true c.cell-item.is (listed l.found) (none_if (p (trade_in cell)) (trade_in cell).position w.in_default.ensures) l.invariant
     ]
-
-pub returns : goal.returns
-returns g c = collect_all (g.A.Asked.asks c.args.asked.now) c.args.cells.now c.loop-cell.cell-index (listed c.loop-cell.found) c.loop-cell-test.false c.loop-cell.invariant

@@ -19,15 +19,3 @@ unreachable-requires c =
     let few : length (listed c.args.clients.now) ≤ 128 = omega (arith, length_listed c.args.clients.now, c.args.clients.now.within) in
     both_ways (summable ds) (none_if (summable ds) (total_greatest c.args.defaults (amounts ds)) c.in-None.ensures.value)
     (lacks_summable ds (listed c.args.clients.now) few (amounts_are (goal.at.unreachable-requires c).After-sum_of_greatest))
-
-pub returns : goal.returns
-returns c =
-    let ds = c.as_slice.result.now in
-    let n = c.args.defaults in
-    let f : SFits w64 c.in-Some.sum = search rules in
-    let bits = to_z-of_z w64 c.in-Some.sum f in
-    let is = (some_if (summable ds) c.in-Some.sum (total_greatest n (amounts ds)) c.in-Some.ensures.value).1 in
-    record {
-      value = bits ∙ is ∙ ap (total_greatest n) (amounts_are (goal.at.returns c).After-sum_of_greatest);
-      small = rw bits c.in-Some.ensures.small;
-    }

@@ -9,9 +9,6 @@ use Rattle.statements.proofs.Picking.{some_if, none_if}
 use Rattle.statements.proofs.days.Day.all_figures.Goals as goal
 use Rattle.statements.proofs.days.Day.all_figures.Goals.{in-Some, in_default}
 
-pub loop-number-init : goal.loop-number-init
-loop-number-init g c = ap (map figures_in) c.no_figures-found.ensures
-
 pub loop-number-preserved : goal.loop-number-preserved
 loop-number-preserved g c =
     let m = g.M.ScenarioModel.table c.args.self.now.model.now in
@@ -32,10 +29,3 @@ loop-number-preserved g c =
           ap (λ f. map figures_in (listed f)) w.found-is
           ∙ stated_no m l tr n found inv (none_if (is_of m l tr n) (client_figures m l n) w.in_default.ensures)
     ]
-
-pub returns : goal.returns
-returns g c =
-    let m = g.M.ScenarioModel.table c.args.self.now.model.now in
-    let l = ledger_in c.args.self.now.book.now in
-    let e : c.loop-number.number ≡ length l.clients = omega (arith, c.loop-number-test.false, c.loop-number.auto.number-end, c.client_count-number-end.ensures.value) in
-    c.loop-number.invariant ∙ ap (stated m l c.args.trader) e
