@@ -18,9 +18,10 @@ use refusals::Refusal;
 pub fn set_cash(book: &mut Book, client: u64, amount: i64) -> Result<(), Refusal>
     ensures { (m : ScenarioTable) → Answered m (ledger_in book.old) (cashCall client amount) (answered (λ _. accepted) result) (ledger_in book.new) }
 {
-    let Some(row) = book.clients.get_mut(client as usize) else {
-        return Err(Refusal::Unknown);
-    };
+    let row = book
+        .clients
+        .get_mut(client as usize)
+        .ok_or(Refusal::Unknown)?;
     let cash = Cash::new(amount).ok_or(Refusal::OutOfRange)?;
     if book.passed {
         return Err(Refusal::AfterWindow);
