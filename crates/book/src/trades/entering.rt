@@ -72,9 +72,7 @@ impl TradeTable {
         ensures known { i < length (cells_in self.old) → (result ≡ change_answer (slice_index_or (cells_in self.old) i Empty) change) × (cells_in self.new ≡ slice_set (cells_in self.old) i (cell_after (slice_index_or (cells_in self.old) i Empty) change)) }
         ensures past { length (cells_in self.old) ≤ i → (result ≡ Err Unknown) × (cells_in self.new ≡ cells_in self.old) }
     {
-        match self.rows.get_mut(i) {
-            Some(cell) => cell.change(change),
-            None => Err(Refusal::Unknown),
-        }
+        let cell = self.rows.get_mut(i).ok_or(Refusal::Unknown)?;
+        cell.change(change)
     }
 }

@@ -12,6 +12,7 @@ use Rattle.rules.specs.Causes.{cash, cause}
 use Rattle.rules.specs.Ledger.{Client, with_clients}
 use Rattle.rules.proofs.Answered.{accepts}
 use Rattle.book.specs.Ledgers.{ledger_in}
+use Rattle.book.proofs.Readings.{read_at}
 use Rattle.book.proofs.Facts.{capped_after}
 use Rattle.book.proofs.Readings.{read_at}
 use Rattle.money.proofs.Paying.{no_contracts, figure_some}
