@@ -1,7 +1,6 @@
 -- Whether every element of a list passes a test. Assumes nothing.
-use Rattle.std.proofs.Common.{◌≡◌, Bool, true, ◌&&◌, List, [], ◌∷◌, map, refl, ap}
-use Rattle.std.specs.List.{AllByRecursion, list_all}
-use Rattle.std.proofs.lemmas.Bool.{and_parts}
+use Rattle.std.proofs.Common.{◌≡◌, Bool, ◌&&◌, List, [], ◌∷◌, map, refl, ap}
+use Rattle.std.specs.List.{list_all}
 use Rattle.figures.specs.Every.{every}
 
 module _ {A B : Type 0} (g : A → B) (p : B → Bool) where
