@@ -21,17 +21,12 @@ fn part_of(slip: Stub, holder: Holder) -> i64
 }
 
 // What the slips of a holder say together.
-// Kept as a loop: by an iterator's `sum` it stayed open that the total fits, since what is known of such sums is of unsigned numbers.
 pub(crate) fn standing(slips: &[Stub], holder: Holder) -> i64
     requires { length slips.now ≤ 32 }
     ensures value { result ≡ amounts_of (map slip_in slips.now) (holder_of holder) }
     ensures small { unsigned_abs result ≤ 32 * 1000000000000000 }
 {
-    let mut sum = 0;
-    for slip in slips {
-        sum += part_of(*slip, holder);
-    }
-    sum
+    slips.iter().map(|slip| part_of(*slip, holder)).sum()
 }
 
 // The place of the first slip that says the same.

@@ -1,9 +1,13 @@
 -- The bounds of the shocks of an accepted file.
-use Rattle.std.proofs.Common.{◌≡◌, ℕ, zero, suc, ◌+◌, ◌*◌, ◌<◌, ◌≤◌, cond, ◌&&◌, eqb, ltb, List, ℤ, pos, negsuc, ◌+ℤ◌, ◌*ℤ◌, nat_abs, sym, refl, ap, ◌∙◌, subst, add-one, arith, w64, SFits, to_z, of_z}
+use Rattle.std.proofs.Common.{◌≡◌, ℕ, zero, suc, ◌+◌, ◌*◌, ◌<◌, ◌≤◌, cond, ◌&&◌, eqb, ltb, List, [], ◌∷◌, fold, map, take, ℤ, pos, negsuc, ◌+ℤ◌, ◌*ℤ◌, nat_abs, sym, refl, ap, ◌∙◌, add-one, arith, w64, SFits}
 use lib.IntN.{*ℤ-zero}
 use Rattle.std.proofs.lemmas.Nat.{mul-le}
-use Rattle.std.proofs.lemmas.Int.{ints, to_z-of_z}
+use Rattle.std.proofs.lemmas.Int.{ints}
 use Rattle.std.proofs.lemmas.Bool.{cond_both, cond-true, cond-false, eqb-true, eqb-false, ne_eqb, lt-ltb, and_from, and_parts, ltb-true}
+use Rattle.std.specs.List.{range_with_len}
+use Rattle.std.proofs.lemmas.List.Sums.{fold-append}
+use Rattle.std.proofs.lemmas.List.FromFn.{map-range_with_len_more, length-map-range_with_len}
+use Rattle.scenario.proofs.SignedSums.{small_fits, all_range}
 use Rattle.rounding.specs.Rounding.{parts, nearest}
 use Rattle.layout.specs.Fields.{kind, contracts, scenarios, factors, payoff, exposure, factor_shock, series_shock}
 use Rattle.inspection.specs.Causes.{wrong_kind}
@@ -19,26 +23,15 @@ abs_mul x y = grind (arith, ints)
 pub part_small : (x y : ℤ) → nat_abs x ≤ 12500000 → nat_abs y ≤ 10000 → nat_abs (x *ℤ y) ≤ 125000000000
 part_small x y h k = rw abs_mul (mul-le (nat_abs x) (nat_abs y) 12500000 10000 h k)
 
-pub total_none : (g : ℕ → ℤ) → total_below 0 g ≡ pos 0
+-- a chain's sum over the numbers below n is the total
+pub total_folded : (g : ℕ → ℤ) (n : ℕ) → fold ◌+ℤ◌ (pos 0) (map g (range_with_len 0 n)) ≡ total_below n g
 unfolding total_below
-total_none g = refl
-
-pub total_more : (g : ℕ → ℤ) (i : ℕ) (a x : ℤ) → a ≡ total_below i g → x ≡ g i → a +ℤ x ≡ total_below (i + 1) g
-unfolding total_below
-total_more g i a x p q = rw add-one (cc)
-
-abs_add : (x y : ℤ) (m n : ℕ) → nat_abs x ≤ m → nat_abs y ≤ n → nat_abs (x +ℤ y) ≤ m + n
-abs_add x y m n h k = omega (arith, ints)
-
--- a step of the loop that sums: the code adds a and x as 64 bits
-pub total_step : (g : ℕ → ℤ) (i : ℕ) (a x : ℤ) → a ≡ total_below i g → x ≡ g i → nat_abs a ≤ 125000000000 * i → nat_abs x ≤ 125000000000 → i < 8 → (to_z w64 (of_z w64 (a +ℤ to_z w64 (of_z w64 x))) ≡ total_below (i + 1) g) × (nat_abs (to_z w64 (of_z w64 (a +ℤ to_z w64 (of_z w64 x)))) ≤ 125000000000 * (i + 1))
-total_step g i a x p q h k l =
-    let b : nat_abs (a +ℤ x) ≤ 125000000000 * i + 125000000000 = abs_add a x (125000000000 * i) 125000000000 h k in
-    let fx : SFits w64 x = omega (arith, ints) in
-    let fs : SFits w64 (a +ℤ x) = omega (arith, ints) in
-    let e : to_z w64 (of_z w64 (a +ℤ to_z w64 (of_z w64 x))) ≡ a +ℤ x = ap (λ (z : ℤ). to_z w64 (of_z w64 (a +ℤ z))) (to_z-of_z w64 x fx) ∙ to_z-of_z w64 (a +ℤ x) fs in
-    let P : ℤ → Type 0 = λ z. nat_abs z ≤ 125000000000 * (i + 1) in
-    (e ∙ total_more g i a x p q, subst P (sym e) (omega arith))
+total_folded g zero = refl
+total_folded g (suc n) =
+    ap (λ k. fold ◌+ℤ◌ (pos 0) (map g (range_with_len 0 k))) (sym (add-one n))
+    ∙ ap (fold ◌+ℤ◌ (pos 0)) (map-range_with_len_more g 0 n n (omega arith))
+    ∙ fold-append ◌+ℤ◌ (pos 0) (map g (range_with_len 0 n)) (g n ∷ [])
+    ∙ ap (λ (z : ℤ). z +ℤ g n) (total_folded g n)
 
 -- what holds of each part up to a bound holds of the total
 total_small : (g : ℕ → ℤ) (m n : ℕ) → ((f : ℕ) → f < n → nat_abs (g f) ≤ m) → nat_abs (total_below n g) ≤ m * n
@@ -69,6 +62,14 @@ module _ (b : List ℕ) (p : Passes b) where
       let few = few_factors b p e in
       let t = total_small (λ f. exposure b j f *ℤ factor_shock b s f) 125000000000 (factors b) (λ f h. part_small (exposure b j f) (factor_shock b s f) (small_exposure b p e j f l h) (small_factor b p e s f m h)) in
       omega arith
+
+  -- and each sum on the way to it fits
+  pub parts_fit : kind b ≡ 1 → (j s : ℕ) → j < contracts b → s < scenarios b → (k : ℕ) → SFits w64 (fold ◌+ℤ◌ (pos 0) (take k (map (λ f. exposure b j f *ℤ factor_shock b s f) (range_with_len 0 (factors b)))))
+  parts_fit e j s l m =
+      let g : ℕ → ℤ = λ f. exposure b j f *ℤ factor_shock b s f in
+      let few = few_factors b p e in
+      let long = length-map-range_with_len g 0 (factors b) in
+      small_fits 125000000000 (map g (range_with_len 0 (factors b))) (all_range (λ z. nat_abs z ≤ 125000000000) g 0 (factors b) (λ f _ h. part_small (exposure b j f) (factor_shock b s f) (small_exposure b p e j f l (omega arith)) (small_factor b p e s f m (omega arith)))) (omega arith)
 
   -- a sheet of no other kind is one of strikes
   pub strikes : (kind b ≡ 1 → ⊥) → (kind b ≡ 2 → ⊥) → kind b ≡ 3

@@ -127,12 +127,7 @@ impl FactorCell<'_> {
     fn total(&self) -> i64
         ensures { result ≡ moved_by_factors self.now.file.now self.now.j self.now.s }
     {
-        // Kept a loop: `sum` over signed numbers asks that each sum on the way fits, and that goal stays open.
-        let mut sum = 0;
-        for f in 0..factor_count(self.file) {
-            sum += self.part(f);
-        }
-        sum
+        (0..factor_count(self.file)).map(|f| self.part(f)).sum()
     }
 
     // The gain of one bought contract of the record in the scenario.

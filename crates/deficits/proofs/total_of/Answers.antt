@@ -3,7 +3,7 @@ use Rattle.std.proofs.lemmas.Int.{to_z-of_z}
 use Rattle.deficits.specs.Summed.{amounts}
 use Rattle.std.proofs.lemmas.Iterator.{YieldsList-from_slice, YieldsList-from_map}
 use Rattle.std.proofs.lemmas.Iterator.Adapters.{total_from_yields_List}
-use Rattle.figures.proofs.SignedSums.{sum_fits}
+use Rattle.scenario.proofs.SignedSums.{sum_fits}
 use Rattle.deficits.proofs.Summing.{amounts_fit, amounts_sum}
 use Rattle.deficits.proofs.total_of.Goals as goal
 
