@@ -5,7 +5,8 @@ use Rattle.std.proofs.lemmas.Iterator.Adapters.{total_from_yields_List}
 use Rattle.std.proofs.lemmas.Iterator.Consumers.{YieldsList-from_copied}
 use Rattle.figures.specs.Losses.{at}
 use Rattle.figures.specs.Sums.{total}
-use Rattle.figures.proofs.SignedSums.{total_folded, sum_fits}
+use Rattle.scenario.proofs.SignedSums.{sum_fits}
+use Rattle.figures.proofs.SignedSums.{total_folded}
 use Rattle.figures.proofs.Summing.{firsts_small}
 use Rattle.figures.proofs.tally.sum_of.Goals as goal
 

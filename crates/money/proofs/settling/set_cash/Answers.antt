@@ -14,7 +14,6 @@ use Rattle.rules.proofs.Answered.{accepts}
 use Rattle.book.specs.Ledgers.{ledger_in}
 use Rattle.book.proofs.Readings.{read_at}
 use Rattle.book.proofs.Facts.{capped_after}
-use Rattle.book.proofs.Readings.{read_at}
 use Rattle.money.proofs.Paying.{no_contracts, figure_some}
 use Rattle.money.proofs.Settled.{cash_free}
 use Rattle.money.proofs.Written.{cash_set}
