@@ -13,6 +13,7 @@ use crate::positions::Positions;
 use crate::rows::{add_losses, greatest_of};
 use scenario::ScenarioModel;
 
+// Kept as functions of a model, here and below: a margin needs no market price, which a `Market` has.
 /// Whether a position lies in subportfolio `k`.
 pub(crate) fn lies_in<M: ScenarioModel>(model: &M, k: u8, position: &Position) -> bool
     ensures { result ≡ lies_in (M.ScenarioModel.table model.now) k (position_of position.now) }

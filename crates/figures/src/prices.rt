@@ -7,6 +7,7 @@ use std::fmt;
 
 pub mod reading;
 
+// Kept a table by the contracts' numbers, and no map: no call of a session allocates.
 /// The market price, in ticks, of each contract that has one.
 #[derive(Clone, Copy)]
 pub struct Prices {

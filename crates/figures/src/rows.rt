@@ -14,6 +14,7 @@ use scenario::ScenarioModel;
 /// Room for a sum for each scenario of a subportfolio.
 pub(crate) type Row = [i64; MOST_SCENARIOS];
 
+// Kept as premises, here and in `margins`: a row is lent out of a larger table, and its sums are small only while they are added up.
 /// Adds what a position loses in each scenario to its sum in the row.
 pub(crate) fn add_losses<M: ScenarioModel, C: Counting>(
     row: &mut [i64],

@@ -77,6 +77,7 @@ impl<'a, M: ScenarioModel> Day<'a, M> {
         requires { number < length (ledger_in self.now.book.now).clients }
         ensures { figured result ≡ (if nat_eq (client_of (ledger_in self.now.book.now) number).trader trader then Some (client_figures (M.ScenarioModel.table self.now.model.now) (ledger_in self.now.book.now) number) else None) }
     {
+        // Kept a match with a guard: the figures ask that the client is the book's, which is known in its arm.
         match self.book.client(number as u64) {
             Some(client) if client.trader == trader => Some(self.figures_of(number, client)),
             _ => None,
