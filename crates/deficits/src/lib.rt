@@ -90,7 +90,7 @@ fn are_fair(deficits: &[Deficit]) -> bool
 }
 
 /// The amounts together.
-// Kept as a clause of each function that gives a sum: callers read the sum as an i64, which a type with the bound would hide.
+// Kept as a clause of each function that gives a sum, not as a fact of `Picked`: its fields are public, and it must ask no more of whoever builds one.
 fn total_of(deficits: &[Deficit]) -> i64
     requires { summable deficits.now ≡ true }
     ensures value { result ≡ total (λ x. x) (amounts deficits.now) }

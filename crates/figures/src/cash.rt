@@ -4,8 +4,8 @@ ghost use Rattle.std.specs.Prelude.{◌≤◌, unsigned_abs};
 pub mod setting;
 
 /// What a client receives of the day's settlement or, below 0, owes of it: within 10^13 centavos either way.
-// Kept apart from the book's `Fund`, which is such an amount with other bounds: one type with both bounds as const parameters writes two
-// numbers of fourteen digits wherever a fund or a settlement amount is named.
+// Kept apart from the book's `Fund`, an amount in another range: `none` makes 0 for every caller, so 0 must lie in the range, which const
+// parameters cannot say and a public function does not require. So each range is a type with a fact of its own.
 #[derive(Clone, Copy, Debug, PartialEq, Eq)]
 pub struct Cash {
     /// In centavos.

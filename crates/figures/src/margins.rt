@@ -18,10 +18,9 @@ use scenario::ScenarioModel;
 pub(crate) fn lies_in<M: ScenarioModel>(model: &M, k: u8, position: &Position) -> bool
     ensures { result ≡ lies_in (M.ScenarioModel.table model.now) k (position_of position.now) }
 {
-    let Some((at, _)) = model.place(position.contract) else {
-        return false;
-    };
-    at == k
+    model
+        .place(position.contract)
+        .is_some_and(|(at, _)| at == k)
 }
 
 /// Counts one more position, where it lies in subportfolio `k`. Its place is asked once.

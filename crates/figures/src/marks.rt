@@ -18,7 +18,7 @@ pub(crate) fn gained(position: &Position, multiplier: u16, ticks: u32) -> i64
     scaled(
         position.quantity,
         multiplier,
-        ticks as i64 - position.price as i64,
+        i64::from(ticks) - i64::from(position.price),
     )
 }
 
@@ -36,14 +36,10 @@ impl<'a, M: ScenarioModel> Market<'a, M> {
         ensures value { result ≡ mark (M.ScenarioModel.table self.now.model.now) (market self.now.prices.now) (position_of position.now) }
         ensures small { unsigned_abs result ≤ 10000000000000 }
     {
-        match self.model.place(position.contract) {
-            Some((_, multiplier)) => gained(
-                position,
-                multiplier,
-                self.prices.ticks_of(position.contract),
-            ),
-            None => 0,
-        }
+        let ticks = self.prices.ticks_of(position.contract);
+        self.model
+            .place(position.contract)
+            .map_or(0, |(_, multiplier)| gained(position, multiplier, ticks))
     }
 
     /// The mark of a position: what it has gained since it was traded. `None` where its contract has no market price.

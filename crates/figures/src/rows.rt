@@ -14,7 +14,9 @@ use scenario::ScenarioModel;
 /// Room for a sum for each scenario of a subportfolio.
 pub(crate) type Row = [i64; MOST_SCENARIOS];
 
-// Kept as premises, here and in `margins`: a row is lent out of a larger table, and its sums are small only while they are added up.
+// Kept as premises: the sums' bound here, in `count_in` and in a market's `count` and `add_losses`, since a row is lent out of a larger table
+// and its sums are small only while they are added up; the mark's bound here, in `Counting::lost` and in a market's `add_losses`, since a
+// type with it would be made in `gained` and at each mark of 0, and opened again wherever a mark is summed or given out.
 /// Adds what a position loses in each scenario to its sum in the row.
 pub(crate) fn add_losses<M: ScenarioModel, C: Counting>(
     row: &mut [i64],

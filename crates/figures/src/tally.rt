@@ -41,6 +41,7 @@ impl<'a, M: ScenarioModel> Market<'a, M> {
         ensures small { unsigned_abs result ≤ 10000000000000 }
         ensures losses { (k : ℕ) → Added (slice_index_or rows.old k []) (slice_index_or rows.new k []) ((M.ScenarioModel.table self.now.model.now).scenarios k) (λ s. loses_in (M.ScenarioModel.table self.now.model.now) (market self.now.prices.now) C.lost k s (position_of position.now)) C.most }
     {
+        // Kept apart from `map_or`: what follows changes the rows, and is more than a value of the place.
         let Some((k, multiplier)) = self.model.place(position.contract) else {
             return 0;
         };
@@ -75,7 +76,7 @@ pub(crate) fn greatest_by_row<M: ScenarioModel>(
 ) -> Rows<i64, 8>
     ensures { listed result ≡ map (λ k. greatest_below ((M.ScenarioModel.table model.now).scenarios k) (at (slice_index_or rows.now k []))) (those_below (M.ScenarioModel.table model.now).subportfolios (λ _. true)) }
 {
-    // Kept by number: a model is asked for one subportfolio after the other.
+    // Kept by number: the model is asked by it too, and `enumerate` would count the rows as usize, cast back to u8 for that question.
     let mut greatest = Rows::new();
     for k in 0..model.subportfolios() {
         let _ = greatest.push(greatest_among(&rows[k as usize], model.scenarios(k)));

@@ -31,7 +31,7 @@ pub trait ScenarioModel {
 
     /// The gain of one bought contract in a scenario of its subportfolio, in centavos;
     /// 0 for an unknown contract or a missing scenario.
-    // Kept as two numbers: a place is asked by the contract alone, and nothing else is known of the two together.
+    // Kept as two numbers: no value holds a contract and a scenario together, so a type of the two would only be made for the question.
     fn shock(&self, contract: u8, scenario: u8) -> i64
         ensures { result ≡ (table self.now).shock contract scenario };
 

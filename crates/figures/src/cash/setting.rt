@@ -6,6 +6,7 @@ ghost use Rattle.figures.specs.Settled.{settled};
 use crate::bounds::MOST_CASH;
 use crate::cash::Cash;
 
+// Kept by hand: a derive gives no value for a type with a fact about its fields.
 impl Default for Cash {
     ghost is_default = { λ x. x.amount ≡ pos 0 };
 
