@@ -31,7 +31,7 @@ pub fn set_cash(book: &mut Book, client: u64, amount: i64) -> Result<(), Refusal
 }
 
 // Makes every settlement amount 0.
-// Kept as a loop over places, here and below: to lend all rows as one slice was proved by hand in 290 lines, beside the 190 that lending one cell takes.
+// Kept as a loop over places, here and below: rows lend one row for change at a time, by its place, and no slice of all of them; the loop is as plain with it.
 fn clear_cash(clients: &mut Rows<Client, 128>)
     ensures { clients_in clients.new ≡ map (with_cash (pos 0)) (clients_in clients.old) }
 {

@@ -1,5 +1,5 @@
 //! Deposits, and what is handed out against slips.
-ghost use Rattle.std.specs.Prelude.{◌≡◌, true, ◌+ℤ◌, Ok, Err};
+ghost use Rattle.std.specs.Prelude.{◌≡◌, true, ◌+ℤ◌, Ok, Err, IsSomeAnd};
 ghost use Rattle.scenario.specs.Table.{ScenarioTable};
 ghost use Rattle.orders.specs.Meant.{holder_of};
 ghost use Rattle.orders.specs.Replied.{answered};
@@ -81,17 +81,14 @@ pub fn settle(book: &mut Book, stub: Stub) -> Result<(), Refusal>
     Ok(())
 }
 
-// What a holder has when the amount of a standing slip is given back to it.
-// Kept with a place that is never reached: that a standing slip leaves room for its amount is a fact of the whole book, which no type of a fund or a slip can say.
-fn restored(book: &Book, stub: Stub) -> Fund
+// What a holder has when the amount of a standing slip is given back to it: there is room for it.
+fn restored(book: &Book, stub: Stub) -> Option<Fund>
     requires { is_standing (slip_in stub) (ledger_in book.now).slips ≡ true }
-    ensures { result.amount ≡ collateral_of (ledger_in book.now) (holder_of stub.holder) +ℤ stub.amount.amount }
+    ensures { IsSomeAnd result (λ x. x.amount ≡ collateral_of (ledger_in book.now) (holder_of stub.holder) +ℤ stub.amount.amount) }
 {
-    let held = collateral(book, stub.holder).unwrap_or_default();
-    match held.checked_add(stub.amount) {
-        Some(fund) => fund,
-        None => unreachable(),
-    }
+    collateral(book, stub.holder)
+        .unwrap_or_default()
+        .checked_add(stub.amount)
 }
 
 /// Strikes the standing slip that says the same, and gives its amount back to its holder.
@@ -99,7 +96,7 @@ pub fn put_back(book: &mut Book, stub: Stub) -> Result<(), Refusal>
     ensures { (m : ScenarioTable) → Answered m (ledger_in book.old) (putBackCall (slip_in stub)) (answered (λ _. accepted) result) (ledger_in book.new) }
 {
     let place = find(book.slips.as_slice(), stub).ok_or(Refusal::NoSuchSlip)?;
-    let fund = restored(book, stub);
+    let fund = restored(book, stub).ok_or(Refusal::NoSuchSlip)?;
     set_collateral(&mut book.traders, &mut book.clients, stub.holder, fund);
     book.slips.remove(place);
     Ok(())

@@ -13,6 +13,7 @@ impl<'a, M: ScenarioModel> Day<'a, M> {
         ensures { result ≡ (if nat_lt client (length (ledger_in self.now.book.now).clients) then Some (need_of (M.ScenarioModel.table self.now.model.now) (ledger_in self.now.book.now) client) else None) }
     {
         let row = self.book.client(client)?;
+        // Kept narrowed by `as`: of a number from `u8::try_from` it was not proved that the need is this client's.
         Some(self.account_of(client as u8, row).need)
     }
 
@@ -21,6 +22,7 @@ impl<'a, M: ScenarioModel> Day<'a, M> {
         ensures known { (c : ℕ) → c < length (ledger_in self.now.book.now).clients → slice_index_or result c (pos 0) ≡ need_of (M.ScenarioModel.table self.now.model.now) (ledger_in self.now.book.now) c }
         ensures past { (c : ℕ) → length (ledger_in self.now.book.now).clients ≤ c → slice_index_or result c (pos 0) ≡ pos 0 }
     {
+        // Kept an array, without a count beside it: 0 past the last client is promised, and the needs at the opening are entered from every such array.
         let mut needs = [0; MOST_CLIENTS];
         for (client, need) in needs.iter_mut().enumerate() {
             *need = self.need_of(client as u64).unwrap_or(0);

@@ -1,7 +1,7 @@
 //! A trader's statement, and its limit.
 ghost use Rattle.std.specs.Prelude.{◌≡◌, ◌<◌, ◌≤◌, length, MatchOption};
 ghost use Rattle.rules.specs.Answers.{statement_of};
-ghost use Rattle.rules.specs.Ledger.{trader_of, no_trader};
+ghost use Rattle.rules.specs.Ledger.{trader_of};
 ghost use Rattle.rules.specs.Limits.{limit};
 ghost use Rattle.book.specs.Ledgers.{ledger_in};
 ghost use Rattle.book.specs.Means.{trader_in};
@@ -10,22 +10,9 @@ ghost use Rattle.statements.specs.Stated.{statement_in};
 use crate::days::Day;
 use crate::statement::Statement;
 use crate::totals::{backing_of, left_of, risk_of, specified_risk};
-use book::funds::Fund;
 use book::traders::Trader;
 use figures::utilisations::used;
 use scenario::ScenarioModel;
-
-// What stands of a number that is no trader's.
-fn nobody() -> Trader
-    ensures { trader_in result ≡ no_trader }
-{
-    Trader {
-        intraday: Fund::none(),
-        defaults: 0,
-        own: Fund::none(),
-        favour: Fund::none(),
-    }
-}
 
 impl<'a, M: ScenarioModel> Day<'a, M> {
     /// The statement of a trader, of what stands of it in the book.
@@ -54,14 +41,14 @@ impl<'a, M: ScenarioModel> Day<'a, M> {
         ensures { MatchOption result (length (ledger_in self.now.book.now).traders ≤ trader) (λ s. (trader < length (ledger_in self.now.book.now).traders) × (statement_in s ≡ statement_of (M.ScenarioModel.table self.now.model.now) (ledger_in self.now.book.now) trader)) }
     {
         let row = self.book.trader(trader)?;
-        Some(self.statement_of(trader as u8, row))
+        Some(self.statement_of(u8::try_from(trader).ok()?, row))
     }
 
     /// A trader's limit: what stands behind it, less its risk. Nothing stands behind a number that is not in use.
     pub fn limit_of(&self, trader: u8) -> i64
         ensures { result ≡ limit (M.ScenarioModel.table self.now.model.now) (ledger_in self.now.book.now) trader }
     {
-        let row = self.book.trader(trader as u64).unwrap_or(nobody());
+        let row = self.book.trader(u64::from(trader)).unwrap_or_default();
         self.statement_of(trader, row).limit
     }
 }

@@ -37,7 +37,7 @@ pub(crate) fn specified_risk(clients: &Rows<ClientFigures, 128>, defaults: u8) -
     let deficits = deficits_of(clients);
     match sum_of_greatest(deficits.as_slice(), defaults as usize) {
         Some(sum) => sum,
-        // Kept: what a client lacks is within a deficit's bounds by its own type, and a list of deficits takes any amounts.
+        // Kept: these amounts are within the bounds of a sum by the type of a client's figures; a `Deficit` is public and takes any amount, and may not ask more.
         None => unreachable(),
     }
 }

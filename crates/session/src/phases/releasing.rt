@@ -30,6 +30,7 @@ fn leaves_less(client: Client, need: i64, amount: Fund) -> bool
     client.collateral.amount - amount.amount < client.opening_need.max(need)
 }
 
+// Kept with a premise, here and in the two below: that there is the holder is a fact of the book, which no type of a slip or of a holder can say.
 // Whether what a slip hands out leaves its holder, which there is, short of its needs. Traders and the member have none.
 fn is_short<M: ScenarioModel>(day: &Day<M>, stub: Stub) -> bool
     ensures { no_such_holder (ledger_in day.now.book.now) (holder_of stub.holder) ≡ false → result ≡ short (M.ScenarioModel.table day.now.model.now) (ledger_in day.now.book.now) (holder_of stub.holder) stub.amount.amount }

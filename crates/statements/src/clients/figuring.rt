@@ -22,6 +22,7 @@ use figures::positions::Positions;
 use rules::bounds::MOST_CLIENTS;
 use scenario::ScenarioModel;
 
+// Kept beside the `deficit` of the crate figures: that answers `None` where a collateral is below 0, which no fund is.
 /// What a collateral lacks of a need, not below 0.
 fn lacking(need: i64, collateral: Fund) -> i64
     requires { unsigned_abs need ≤ 20000000000000000 }
@@ -77,11 +78,11 @@ impl<'a, M: ScenarioModel> Day<'a, M> {
         requires { number < length (ledger_in self.now.book.now).clients }
         ensures { figured result ≡ (if nat_eq (client_of (ledger_in self.now.book.now) number).trader trader then Some (client_figures (M.ScenarioModel.table self.now.model.now) (ledger_in self.now.book.now) number) else None) }
     {
-        // Kept a match with a guard: the figures ask that the client is the book's, which is known in its arm.
-        match self.book.client(number as u64) {
-            Some(client) if client.trader == trader => Some(self.figures_of(number, client)),
-            _ => None,
+        let client = self.book.client(u64::from(number))?;
+        if client.trader != trader {
+            return None;
         }
+        Some(self.figures_of(number, client))
     }
 
     /// The figures of a trader's clients, by rising number.
@@ -89,7 +90,7 @@ impl<'a, M: ScenarioModel> Day<'a, M> {
         ensures { map figures_in (listed result) ≡ map (client_figures (M.ScenarioModel.table self.now.model.now) (ledger_in self.now.book.now)) (clients_of (ledger_in self.now.book.now) trader) }
     {
         let mut found = no_figures();
-        // Kept by number: a book tells of one client after the other.
+        // Kept by number: the figures of a client carry its number, and its trades are found by it; a place among the rows would have to be narrowed to one.
         for number in 0..self.book.client_count() {
             if let Some(figures) = self.figures_if(trader, number) {
                 let _ = found.push(figures);
