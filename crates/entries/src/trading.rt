@@ -53,6 +53,8 @@ pub fn enter_carry(
 {
     let contract = placed.ok_or(Refusal::Unknown)?;
     let row = book.client(client).ok_or(Refusal::Unknown)?;
+    // Kept `as`, here and in `specify`: a client that was found has a number below 128, so that `try_from` would add a refusal that no
+    // call can meet, and its `ok()` would read as a trade with no client.
     enter_lot(book, contract, lot, row.trader, Some(client as u8))
 }
 
