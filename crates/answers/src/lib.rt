@@ -2,7 +2,7 @@
 
 #![tactic(auto)]
 
-ghost use Rattle.std.specs.Prelude.{◌≡◌, ℕ, ◌++◌, IfOk, string_bytes, Option, Result, OnOk};
+ghost use Rattle.std.specs.Prelude.{◌≡◌, ℕ, ◌++◌, IfOk, MatchOption, string_bytes, Option, Some, None, Result, OnOk};
 ghost use Rattle.refusals.specs.Numbers.{refusal_of};
 ghost use Rattle.inspection.specs.Causes.{sheet_cause};
 ghost use Rattle.sheet_set.specs.Places.{Added};
@@ -23,11 +23,12 @@ pub fn refused_line(heap: Global, refusal: Refusal) -> Result<String, AllocError
     format!(in heap; "refused {number} {refusal}")
 }
 
-// The answer to a file that was read: its place and its kind, how many contracts it has, and how many scenarios.
+// The answer to a file that was accepted: its place and its kind, how many contracts it has, and how many scenarios.
 fn sheet_line(heap: Global, place: u8, file: &[u8]) -> Result<String, AllocError>
+    requires passed { None ≡ sheet_cause file.now }
     ensures { IfOk result (λ s. string_bytes s ≡ sheet_text place file.now) }
 {
-    let kind = Kind::try_from(kind_of(file)).unwrap_or(Kind::Strikes);
+    let kind = Kind::try_from(kind_of(file)).unwrap();
     let contracts = contract_count(file);
     let scenarios = scenario_count(file);
     format!(in heap; "sheet {place} {kind} contracts {contracts} scenarios {scenarios}")
@@ -75,6 +76,15 @@ fn add_shocks<M: ScenarioModel>(
     Ok(())
 }
 
+// The number of a contract with its subportfolio and its multiplier, `None` where the model does not know it.
+fn placed<M: ScenarioModel>(model: &M, contract: u64) -> Option<(u8, u8, u16)>
+    ensures { MatchOption result ((M.ScenarioModel.table model.now).place contract ≡ None) (λ p. (p.0 ≡ contract) × ((M.ScenarioModel.table model.now).place contract ≡ Some (p.1, p.2))) }
+{
+    let number = u8::try_from(contract).ok()?;
+    let (place, multiplier) = model.place(number)?;
+    Some((number, place, multiplier))
+}
+
 /// The answer about a contract of a model: its subportfolio, its multiplier, and its shock in each scenario of the
 /// subportfolio; an unknown contract is refused.
 pub fn contract_line<M: ScenarioModel>(
@@ -84,10 +94,7 @@ pub fn contract_line<M: ScenarioModel>(
 ) -> Result<String, AllocError>
     ensures { IfOk result (λ s. string_bytes s ≡ contract_text (M.ScenarioModel.table model.now) contract) }
 {
-    let Ok(number) = u8::try_from(contract) else {
-        return refused_line(heap, Refusal::Unknown);
-    };
-    let Some((place, multiplier)) = model.place(number) else {
+    let Some((number, place, multiplier)) = placed(model, contract) else {
         return refused_line(heap, Refusal::Unknown);
     };
     let mut line = heading(heap, number, place, multiplier)?;

@@ -4,7 +4,8 @@ ghost use Rattle.std.specs.Prelude.{pos, ◌≤ℤ◌};
 pub mod counting;
 
 /// An amount of 0 to 10^15 centavos.
-// Kept apart from `Cash`, which is such an amount in another range: with the range as a parameter no code could make 0.
+// Kept apart from `Cash`, which is such an amount in another range: public functions ask nothing of their callers, so that with the range as a parameter
+// no constructor could make 0, which not every range holds.
 #[derive(Clone, Copy, Debug, PartialEq, Eq)]
 pub struct Fund {
     /// In centavos.

@@ -13,6 +13,7 @@ pub struct Stub {
     pub amount: Fund,
 }
 
+// Kept by hand: a derive would take the holder's default, and each variant of `Holder` carries a number, so that none is derived for it.
 impl Default for Stub {
     ghost use Rattle.std.specs.Prelude.{◌≡◌};
     ghost use Rattle.rules.specs.Ledger.{no_slip};

@@ -15,7 +15,8 @@ pub struct Rows<T, const N: usize> {
     ghost long: { length cells.at ≡ N },
 }
 
-// Kept: no `Clone` can be derived for a struct with a type parameter and a ghost field.
+// Kept by hand: `derive` was tried, and `derive_where` with `T: Copy`; the check refuses both for this struct, which has a type
+// parameter and ghost fields (`derive-over-ghost-field`).
 impl<T: Copy, const N: usize> Clone for Rows<T, N> {
     ghost is_clone = { λ x y. y ≡ x };
 

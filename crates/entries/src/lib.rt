@@ -1,6 +1,5 @@
 //! The calls that enter traders, clients, trades and prices into a book, and those that change where a trade stands.
 //! Where a call asks whether the model knows a contract, it is told: the contract's number if the model has it, or nothing.
-// Kept as a premise of three contracts: what is told is true of a table that no value here holds, so no type can carry it.
 
 #![tactic(auto)]
 

@@ -21,12 +21,12 @@ fn made_trader(intraday: i64, defaults: i64) -> Option<Trader>
     ensures { trader_made result ≡ made_if (within (pos 0) (pos most_amount) intraday && within (pos 1) (pos most_defaults) defaults) (new_trader intraday defaults) }
 {
     let granted = Fund::new(intraday)?;
-    if !(1..=MOST_DEFAULTS as i64).contains(&defaults) {
+    if !(1..=i64::from(MOST_DEFAULTS)).contains(&defaults) {
         return None;
     }
     Some(Trader {
         intraday: granted,
-        defaults: defaults as u8,
+        defaults: u8::try_from(defaults).ok()?,
         ..Trader::default()
     })
 }

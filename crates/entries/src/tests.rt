@@ -10,5 +10,5 @@ pub(crate) fn known_trader(book: &Book, trader: u64) -> Option<u8>
     ensures { MatchOption result (no_such_trader (ledger_in book.now) trader ≡ true) (λ x. (no_such_trader (ledger_in book.now) trader ≡ false) × (x ≡ trader)) }
 {
     book.trader(trader)?;
-    Some(trader as u8)
+    u8::try_from(trader).ok()
 }

@@ -15,6 +15,8 @@ use book::trades::standing::{Change, TradeCell};
 use orders::Lot;
 use refusals::Refusal;
 
+// Kept as a premise, here and in the two functions below that are told a place: it is true of a table that no value here holds, so
+// that no type can carry it.
 /// Sets the market price of a contract, which is `placed` where the model knows it.
 pub fn set_price(book: &mut Book, placed: Option<u8>, price: u64) -> Result<(), Refusal>
     ensures { (m : ScenarioTable) (k : ℕ) → placed ≡ placed_in m k → Answered m (ledger_in book.old) (priceCall k price) (answered (λ _. accepted) result) (ledger_in book.new) }
@@ -51,6 +53,8 @@ pub fn enter_carry(
 {
     let contract = placed.ok_or(Refusal::Unknown)?;
     let row = book.client(client).ok_or(Refusal::Unknown)?;
+    // Kept `as`, here and in `specify`: a client that was found has a number below 128, so that `try_from` would add a refusal that no
+    // call can meet, and its `ok()` would read as a trade with no client.
     enter_lot(book, contract, lot, row.trader, Some(client as u8))
 }
 

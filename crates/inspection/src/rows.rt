@@ -48,6 +48,7 @@ pub(crate) fn has_right_numbers(file: &[u8]) -> bool
         && (0..count.saturating_sub(1)).all(|j| number_at(file, j) < number_at(file, j + 1))
 }
 
+// Kept a file and a number, here and below: a record is a place in a file, and every definition of a field takes the two.
 fn is_right_record(file: &[u8], j: u16) -> bool
     ensures { result ≡ right_record file.now j }
 {

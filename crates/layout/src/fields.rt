@@ -93,6 +93,7 @@ pub fn scenario_area_size(file: &[u8]) -> usize
     }
 }
 
+// Kept a file and a number, here and in `inspection`: a record is a place in a file, and every definition of a field takes the two.
 // The first byte of contract record `j`.
 fn record_start(file: &[u8], j: u16) -> usize
     ensures value { result ≡ contract_area file.now + record_bytes file.now * j }

@@ -22,9 +22,7 @@ impl Line {
     pub fn new() -> Line
         ensures { written result ≡ [] }
     {
-        Line {
-            bytes: Rows::of([0; ROOM]),
-        }
+        Line { bytes: Rows::new() }
     }
 
     /// What is written.
@@ -84,7 +82,8 @@ impl Line {
 }
 
 /// What can be written on a line.
-// Kept beside `fmt::Display`: a contract of `write!` speaks of its `Ok` alone, and what is written here cannot fail.
+// Kept beside `fmt::Display`, which was tried: that `write!` answers `Ok` stayed open, as its contract says what is written only where
+// it does, and what is written here cannot fail.
 pub trait Shown: Drop {
     /// The bytes that are written.
     ghost text: { Self → List ℕ };

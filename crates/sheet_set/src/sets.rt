@@ -12,7 +12,7 @@ pub type Four = Pair<Two, Two>;
 /// Eight sheets as one model.
 pub type Eight = Pair<Four, Four>;
 
-// Kept a count beside a nest of fixed size: no call of a session allocates.
+// Kept a count beside a nest of fixed size: sheets use fixed memory, so that no fill can fail for want of it.
 /// The sheets read so far, the places that are not filled yet being empty sheets.
 #[derive(Drop)]
 pub struct SheetSet {

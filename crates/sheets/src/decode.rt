@@ -32,10 +32,10 @@ fn find_record(file: &[u8], contract: usize) -> Option<u16>
 fn multiplier_at(file: &[u8], j: usize) -> u16
     ensures { result ≡ multiplier_cell file.now j }
 {
-    if j < contract_count(file) as usize {
-        second_at(file, j as u16)
-    } else {
-        0
+    let count = contract_count(file);
+    match u16::try_from(j) {
+        Ok(record) if record < count => second_at(file, record),
+        _ => 0,
     }
 }
 
@@ -85,10 +85,13 @@ impl Accepted<'_> {
     fn cell_at(&self, j: usize, s: usize) -> i32
         ensures { result ≡ shock_cell self.now.file.now j s }
     {
-        if j < contract_count(self.file) as usize && s < scenario_count(self.file) as usize {
-            self.shock_of(j as u16, s as u16)
-        } else {
-            0
+        let records = contract_count(self.file);
+        let scenarios = scenario_count(self.file);
+        match (u16::try_from(j), u16::try_from(s)) {
+            (Ok(record), Ok(scenario)) if record < records && scenario < scenarios => self.shock_of(
+                record, scenario,
+            ),
+            _ => 0,
         }
     }
 

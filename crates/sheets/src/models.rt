@@ -129,7 +129,7 @@ impl ScenarioModel for StrikeSheet {
     fn shock(&self, contract: u8, scenario: u8) -> i64 {
         match self.index.record(contract) {
             Some(j) if u16::from(scenario) == j + 1 && u16::from(scenario) <= self.index.count =>
-                self.payoff as i64,
+                i64::from(self.payoff),
             _ => 0,
         }
     }

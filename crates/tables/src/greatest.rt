@@ -16,7 +16,7 @@ pub(crate) fn greatest_of(owed: &[i64], count: i64) -> Option<i64>
     for (i, amount) in owed.iter().enumerate() {
         let deficit = Deficit {
             amount: *amount,
-            client: i as u8,
+            client: u8::try_from(i).ok()?,
         };
         deficits.push(deficit).ok()?;
     }

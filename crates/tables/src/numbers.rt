@@ -30,7 +30,8 @@ pub(crate) fn signed(word: &str) -> Option<i64>
 pub(crate) fn all_signed(heap: Global, text: &str) -> Result<Option<Vec<i64>>, AllocError>
     ensures { IfOk result (λ o. option_map vec_items o ≡ all_signed (words text.now)) }
 {
-    // Kept a loop over the rest: an iterator over the words would carry the same rest, and laws besides.
+    // Kept a loop over the rest: std's `split_whitespace` splits at tabs too, which here are part of a word, and an iterator of our own
+    // would carry the same rest, and laws besides.
     let mut numbers = Vec::new(heap);
     let mut rest = text;
     while let Some((word, after)) = next_word(rest) {

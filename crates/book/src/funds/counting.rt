@@ -5,6 +5,7 @@ ghost use Rattle.book.specs.Funded.{fund_if, meant_fund};
 use crate::funds::Fund;
 use rules::bounds::MOST_AMOUNT;
 
+// Kept by hand: no `Default` is derived for a type that keeps a fact about its fields.
 impl Default for Fund {
     ghost is_default = { λ x. x.amount ≡ pos 0 };
 
@@ -25,11 +26,10 @@ impl Fund {
     pub fn new(amount: i64) -> Option<Fund>
         ensures { meant_fund result ≡ fund_if amount }
     {
-        if (0..=MOST_AMOUNT).contains(&amount) {
-            Some(Fund { amount })
-        } else {
-            None
+        if !(0..=MOST_AMOUNT).contains(&amount) {
+            return None;
         }
+        Some(Fund { amount })
     }
 
     /// Both amounts together. `None` where that is above 10^15.
