@@ -38,10 +38,10 @@ fn is_short<M: ScenarioModel>(day: &Day<M>, stub: Stub) -> bool
     let Holder::Client(client) = stub.holder else {
         return false;
     };
-    match (day.book.client(client), day.need_of(client)) {
-        (Some(row), Some(need)) => leaves_less(row, need, stub.amount),
-        _ => true,
-    }
+    day.book
+        .client(client)
+        .zip(day.need_of(client))
+        .is_none_or(|(row, need)| leaves_less(row, need, stub.amount))
 }
 
 // The trader whose limit the collateral of a holder, which there is, stands behind.
@@ -58,6 +58,7 @@ fn trader_of(book: &Book, holder: Holder) -> Option<u8>
 fn is_uncovered<M: ScenarioModel>(day: &Day<M>, tried: &Day<M>, stub: Stub) -> bool
     ensures { no_such_holder (ledger_in day.now.book.now) (holder_of stub.holder) ≡ false → result ≡ (short (M.ScenarioModel.table day.now.model.now) (ledger_in day.now.book.now) (holder_of stub.holder) stub.amount.amount || int_lt (limit (M.ScenarioModel.table tried.now.model.now) (ledger_in tried.now.book.now) (holders_trader (ledger_in day.now.book.now) (holder_of stub.holder))) (pos 0)) }
 {
+    // Kept, for `is_none_or`: under its premise it was not proved what the closure's answer says of the holder's trader.
     let Some(trader) = trader_of(day.book, stub.holder) else {
         return true;
     };
@@ -72,6 +73,7 @@ fn is_sunk<M: ScenarioModel>(day: &Day<M>, tried: &Day<M>, trader: u8) -> bool
     left < day.limit_of(trader) && left < 0
 }
 
+// Kept with each day written out: where a method of the session made it, what `withdraw` has of the two days was not proved of theirs.
 impl<M: ScenarioModel> Session<M> {
     /// Takes a trade from its client again, unless that lowers its trader's limit to below zero.
     pub fn cancel(&mut self, trade: u64) -> Result<(), Refusal>
