@@ -1,5 +1,5 @@
 -- Answers that are there only where a test holds, and lists of what passes one. Assumes nothing.
-use Rattle.std.proofs.Common.{◌≡◌, ℕ, suc, ◌≤◌, Bool, true, false, cond, List, [], ◌∷◌, ◌++◌, length, Some, None, refl, ap, arith}
+use Rattle.std.proofs.Common.{◌≡◌, ℕ, suc, ◌≤◌, Bool, true, false, ◌&&◌, cond, List, [], ◌∷◌, ◌++◌, length, Some, None, refl, ap, arith}
 use Rattle.figures.specs.Sums.{only}
 
 pub some_if : {A : Type 0} (b : Bool) (x y : A) → Some x ≡ cond b (Some y) None → (b ≡ true) × (x ≡ y)
@@ -9,6 +9,10 @@ some_if false x y e = let z : ◌≡◌ {A = ℕ} 0 1 = cc in absurd (omega arit
 pub none_if : {A : Type 0} (b : Bool) (y : A) → None ≡ cond b (Some y) None → b ≡ false
 none_if true y e = let z : ◌≡◌ {A = ℕ} 0 1 = cc in absurd (omega arith)
 none_if false y e = refl
+
+-- of two tests that do not both hold, the second does not where the first does
+pub unasked : (a b : Bool) → a ≡ true → (a && b) ≡ false → b ≡ false
+unasked a b h e = rw h at e
 
 module _ {A : Type 0} (p : A → Bool) where
   pub only_push : (xs : List A) (y : A) → only p (xs ++ y ∷ []) ≡ only p xs ++ cond (p y) (y ∷ []) []

@@ -1,13 +1,15 @@
 //! How positions are collected from the trades.
-ghost use Rattle.std.specs.Prelude.{◌≡◌, ◌≤◌, Bool, true, map, length, if◌then◌else◌, Some, None};
+ghost use Rattle.std.specs.Prelude.{◌≡◌, Bool, ◌&&◌, map, if◌then◌else◌, Some, None};
 ghost use Rattle.cells.specs.Listed.{listed};
 ghost use Rattle.figures.specs.Positions.{meant, positions_of};
 ghost use Rattle.figures.specs.Sums.{only};
 ghost use Rattle.rules.specs.Ledger.{Trade};
 ghost use Rattle.rules.specs.Limits.{held_by, open_for};
-ghost use Rattle.book.specs.Filled.{is_filled, each_filled};
+ghost use Rattle.book.specs.Filled.{is_filled};
+ghost use Rattle.book.specs.Ledgers.{ledger_in};
 ghost use Rattle.book.specs.Means.{trade_in};
 
+use book::books::Book;
 use book::trades::standing::TradeCell;
 use cells::rows::Rows;
 use figures::bounds::MOST_POSITIONS;
@@ -17,10 +19,9 @@ use figures::position::Position;
 pub(crate) trait Asked {
     ghost asks: { Self → Trade → Bool };
 
-    /// The position of a trade that is asked for, `None` of another.
+    /// The position of a trade that is asked for, `None` of another, and of an empty cell.
     fn position_in(&self, cell: &TradeCell) -> Option<Position>
-        requires { is_filled cell.now ≡ true }
-        ensures { meant result ≡ (if asks self.now (trade_in cell.now) then Some (trade_in cell.now).position else None) };
+        ensures { meant result ≡ (if is_filled cell.now && asks self.now (trade_in cell.now) then Some (trade_in cell.now).position else None) };
 }
 
 /// Those of a client, given to it or carried for it.
@@ -55,18 +56,18 @@ impl Asked for OpenFor {
     }
 }
 
-/// The positions of the trades that are asked for, in their order.
-pub(crate) fn collect<A: Asked>(cells: &[TradeCell], asked: &A) -> Rows<Position, 1024>
-    requires { (length cells.now ≤ 1024) × (each_filled cells.now ≡ true) }
-    ensures { positions_of (listed result) ≡ map (λ t. t.position) (only (A.asks asked.now) (map trade_in cells.now)) }
+/// The positions of the trades of a book that are asked for, in their order.
+pub(crate) fn collect<A: Asked>(book: &Book, asked: &A) -> Rows<Position, 1024>
+    ensures { positions_of (listed result) ≡ map (λ t. t.position) (only (A.asks asked.now) (ledger_in book.now).trades) }
 {
+    // Kept as a repeated position, where other tables begin with a default: a position holds one contract or more, so that none is a plain default.
     let unfilled = Position {
         contract: 0,
         quantity: 1,
         price: 1,
     };
     let mut found = Rows::of([unfilled; MOST_POSITIONS]);
-    for cell in cells {
+    for cell in book.cells() {
         if let Some(position) = asked.position_in(cell) {
             let _ = found.push(position);
         }

@@ -48,7 +48,7 @@ impl<'a, M: ScenarioModel> Day<'a, M> {
         ensures value { result ≡ unspecified_risk (M.ScenarioModel.table self.now.model.now) (ledger_in self.now.book.now) trader }
         ensures small { unsigned_abs result ≤ 90112000000000000 }
     {
-        let found = collect(self.book.cells(), &OpenFor(trader));
+        let found = collect(self.book, &OpenFor(trader));
         self.market().open_risk_of(Positions::of(&found))
     }
 }

@@ -54,7 +54,7 @@ impl<'a, M: ScenarioModel> Day<'a, M> {
         ensures need { result.need ≡ need (M.ScenarioModel.table self.now.model.now) (market (ledger_in self.now.book.now)) (held (ledger_in self.now.book.now) number) client.cash.amount }
         ensures small { unsigned_abs result.need ≤ 20000000000000000 }
     {
-        let found = collect(self.book.cells(), &HeldBy(number));
+        let found = collect(self.book, &HeldBy(number));
         self.market().account(Positions::of(&found), client.cash)
     }
 
