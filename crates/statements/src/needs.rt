@@ -13,8 +13,8 @@ impl<'a, M: ScenarioModel> Day<'a, M> {
         ensures { result ≡ (if nat_lt client (length (ledger_in self.now.book.now).clients) then Some (need_of (M.ScenarioModel.table self.now.model.now) (ledger_in self.now.book.now) client) else None) }
     {
         let row = self.book.client(client)?;
-        // Kept narrowed by `as`: of a number from `u8::try_from` it was not proved that the need is this client's.
-        Some(self.account_of(client as u8, row).need)
+        let number = u8::try_from(client).ok()?;
+        Some(self.account_of(number, row).need)
     }
 
     /// The needs of all clients, by number, and 0 past the last client.
