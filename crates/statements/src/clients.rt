@@ -21,3 +21,21 @@ pub struct ClientFigures {
     ghost low: { pos 0 ≤ℤ deficit },
     ghost high: { deficit ≤ℤ pos 50000000000000000 },
 }
+
+// Kept by hand: no `Default` is derived for a type that keeps a fact about its fields.
+impl Default for ClientFigures {
+    ghost use Rattle.std.specs.Prelude.{◌≡◌};
+    ghost use Rattle.statements.specs.Figured.{figures_in, no_figures};
+
+    ghost is_default = { λ x. figures_in x ≡ no_figures };
+
+    fn default() -> ClientFigures {
+        ClientFigures {
+            number: 0,
+            margins: Rows::new(),
+            need: 0,
+            collateral: 0,
+            deficit: 0,
+        }
+    }
+}

@@ -3,7 +3,6 @@ ghost use Rattle.std.specs.Prelude.{◌≡◌};
 ghost use Rattle.statements.specs.Stated.{blank, statement_in};
 
 use crate::clients::ClientFigures;
-use crate::clients::figuring::no_figures;
 use cells::rows::Rows;
 
 /// What a trader's clients need and lack, the risk, what stands behind it, and what that leaves, in centavos.
@@ -31,7 +30,7 @@ impl Statement {
         ensures { statement_in result ≡ blank }
     {
         Statement {
-            clients: no_figures(),
+            clients: Rows::new(),
             specified: 0,
             unspecified: 0,
             risk: 0,

@@ -1,5 +1,5 @@
 //! How the figures of clients are worked out.
-ghost use Rattle.std.specs.Prelude.{◌≡◌, ◌<◌, ◌≤◌, true, [], map, length, pos, ◌≤ℤ◌, if◌then◌else◌, Some, None, nat_eq, unsigned_abs};
+ghost use Rattle.std.specs.Prelude.{◌≡◌, ◌<◌, ◌≤◌, true, map, length, pos, ◌≤ℤ◌, if◌then◌else◌, Some, None, nat_eq, unsigned_abs};
 ghost use Rattle.cells.specs.Listed.{listed};
 ghost use Rattle.figures.specs.Figures.{margin, need, deficit};
 ghost use Rattle.figures.specs.Sums.{those_below};
@@ -17,9 +17,7 @@ use book::clients::Client;
 use book::funds::Fund;
 use cells::rows::Rows;
 use figures::accounts::Account;
-use figures::bounds::MOST_SUBPORTFOLIOS;
 use figures::positions::Positions;
-use rules::bounds::MOST_CLIENTS;
 use scenario::ScenarioModel;
 
 // Kept beside the `deficit` of the crate figures: that answers `None` where a collateral is below 0, which no fund is.
@@ -31,20 +29,6 @@ fn lacking(need: i64, collateral: Fund) -> i64
     ensures high { result ≤ℤ pos 50000000000000000 }
 {
     (need - collateral.amount).max(0)
-}
-
-/// Room for the figures of every client, with none in it.
-pub(crate) fn no_figures() -> Rows<ClientFigures, 128>
-    ensures { listed result ≡ [] }
-{
-    let nobody = ClientFigures {
-        number: 0,
-        margins: Rows::of([0; MOST_SUBPORTFOLIOS]),
-        need: 0,
-        collateral: 0,
-        deficit: 0,
-    };
-    Rows::of([nobody; MOST_CLIENTS])
 }
 
 impl<'a, M: ScenarioModel> Day<'a, M> {
@@ -89,7 +73,7 @@ impl<'a, M: ScenarioModel> Day<'a, M> {
     pub(crate) fn all_figures(&self, trader: u8) -> Rows<ClientFigures, 128>
         ensures { map figures_in (listed result) ≡ map (client_figures (M.ScenarioModel.table self.now.model.now) (ledger_in self.now.book.now)) (clients_of (ledger_in self.now.book.now) trader) }
     {
-        let mut found = no_figures();
+        let mut found = Rows::new();
         // Kept by number: the figures of a client carry its number, and its trades are found by it; a place among the rows would have to be narrowed to one.
         for number in 0..self.book.client_count() {
             if let Some(figures) = self.figures_if(trader, number) {
