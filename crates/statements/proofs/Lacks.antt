@@ -1,9 +1,9 @@
 -- What clients lack. Assumes nothing.
-use Rattle.std.proofs.Common.{◌≡◌, ℕ, ◌+◌, ◌<◌, ◌≤◌, true, ltb, leb, List, [], ◌∷◌, ◌++◌, map, length, get_or, take, ℤ, pos, ◌≤ℤ◌, sym, refl, ap, ◌∙◌, arith}
+use Rattle.std.proofs.Common.{◌≡◌, ℕ, ◌≤◌, true, leb, List, [], ◌∷◌, map, length, ℤ, pos, ◌≤ℤ◌, refl, ap, ◌∙◌, arith}
 use lib.Signed.{le_z}
-use Rattle.std.proofs.lemmas.List.{length-map, length-take, map_more, map_push}
+use Rattle.std.proofs.lemmas.List.{length-map}
 use Rattle.std.proofs.lemmas.Int.{ints}
-use Rattle.std.proofs.lemmas.Bool.{and_from, le-leb, lt-ltb}
+use Rattle.std.proofs.lemmas.Bool.{and_from, le-leb}
 use Rattle.scenario.specs.Table.{ScenarioTable}
 use Rattle.rules.specs.Answers.{ClientFigures, client_figures}
 use Rattle.rules.specs.Ledger.{Ledger}

@@ -1,6 +1,5 @@
 mod Picking
 mod Gathered
 mod Chosen
-mod Counts
 mod Lacks
 mod Needed

@@ -1,7 +1,5 @@
 -- The needs of clients, by number. Assumes nothing.
-use Rattle.std.proofs.Common.{◌≡◌, ℕ, ◌+◌, ◌<◌, ◌≤◌, cond, ltb, List, length, get_or, set, unwrap_or, ℤ, pos, Some, None, Option, ap, ◌∙◌, inl, inr, arith}
-use Rattle.std.proofs.lemmas.Bool.{cond-true, cond-false, lt-ltb, le-ltb, cases_eq}
-use Rattle.std.proofs.lemmas.List.{get_or-set_same, get_or-set_other}
+use Rattle.std.proofs.Common.{ℕ, cond, ltb, length, unwrap_or, ℤ, pos, Some, None, Option}
 use Rattle.scenario.specs.Table.{ScenarioTable}
 use Rattle.rules.specs.Ledger.{Ledger}
 use Rattle.rules.specs.Limits.{need_of}

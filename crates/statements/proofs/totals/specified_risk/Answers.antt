@@ -1,12 +1,11 @@
-use Rattle.std.proofs.Common.{◌≡◌, ◌≤◌, length, ap, ◌∙◌, arith, w64, SFits, rules}
-use Rattle.std.proofs.lemmas.Int.{to_z-of_z}
+use Rattle.std.proofs.Common.{◌≡◌, ◌≤◌, length, ap, ◌∙◌, arith}
 use Rattle.std.proofs.lemmas.Bool.{both_ways}
 use Rattle.cells.specs.Listed.{listed}
 use Rattle.cells.proofs.Rowed.{length_listed}
 use Rattle.deficits.specs.Summed.{amounts, summable}
 use Rattle.figures.specs.Sums.{total_greatest}
 use Rattle.statements.proofs.Lacks.{lacks, lacks_summable}
-use Rattle.statements.proofs.Picking.{some_if, none_if}
+use Rattle.statements.proofs.Picking.{none_if}
 use Rattle.statements.proofs.totals.specified_risk.Goals as goal
 use Rattle.statements.proofs.totals.specified_risk.Goals.{After-sum_of_greatest}
 

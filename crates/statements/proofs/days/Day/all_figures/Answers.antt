@@ -1,10 +1,10 @@
-use Rattle.std.proofs.Common.{◌≡◌, ◌<◌, map, length, ap, ◌∙◌, arith}
+use Rattle.std.proofs.Common.{◌<◌, map, ap, ◌∙◌, arith}
 use Rattle.std.proofs.lemmas.Bool.{ltb-true}
 use Rattle.cells.specs.Listed.{listed}
 use Rattle.rules.specs.Answers.{client_figures}
 use Rattle.book.specs.Ledgers.{ledger_in}
 use Rattle.statements.specs.Figured.{figures_in}
-use Rattle.statements.proofs.Chosen.{is_of, stated, stated_room, stated_yes, stated_no}
+use Rattle.statements.proofs.Chosen.{is_of, stated_room, stated_yes, stated_no}
 use Rattle.statements.proofs.Picking.{some_if, none_if}
 use Rattle.statements.proofs.days.Day.all_figures.Goals as goal
 use Rattle.statements.proofs.days.Day.all_figures.Goals.{in-Some, in_default}
