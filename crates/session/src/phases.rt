@@ -1,11 +1,15 @@
 //! The two times of a day.
-// Kept as two types over the same fields: a call of one time cannot be made in the other.
+ghost use Rattle.std.specs.Prelude.{◌≡◌};
+
 use book::books::Book;
+use scenario::ScenarioModel;
+use statements::days::Day;
 
 pub mod opened;
 pub mod preparing;
 pub mod releasing;
 
+// Kept as two types over the same fields: a call of one time cannot be made in the other.
 /// A day that is being prepared, over one model.
 #[derive(Drop)]
 pub struct Preparation<M> {
@@ -18,4 +22,25 @@ pub struct Preparation<M> {
 pub struct Session<M> {
     pub(crate) model: M,
     pub(crate) book: Book,
+}
+
+impl<M: ScenarioModel> Session<M> {
+    // What statements are made of, by the session's own book.
+    fn day(&self) -> Day<'_, M>
+        ensures model { result.model.now ≡ self.now.model }
+        ensures book { result.book.now ≡ self.now.book }
+    {
+        self.day_with(&self.book)
+    }
+
+    // The same by another book, such as one on which a call is tried.
+    fn day_with<'a>(&'a self, book: &'a Book) -> Day<'a, M>
+        ensures model { result.model.now ≡ self.now.model }
+        ensures book { result.book.now ≡ book.now }
+    {
+        Day {
+            model: &self.model,
+            book,
+        }
+    }
 }

@@ -16,7 +16,6 @@ use money::vaults::{deposit, put_back, settle};
 use orders::{Holder, Lot};
 use refusals::Refusal;
 use scenario::ScenarioModel;
-use statements::days::Day;
 use statements::statement::Statement;
 
 impl<M: ScenarioModel> Session<M> {
@@ -94,11 +93,7 @@ impl<M: ScenarioModel> Session<M> {
         ensures rules { Answered (M.ScenarioModel.table self.now.model) (open_ledger self.now) (statementCall trader) (answered (λ _. stated (statement_in place.new)) result) (open_ledger self.now) }
         ensures kept { AsItWas result place.old place.new }
     {
-        let day = Day {
-            model: &self.model,
-            book: &self.book,
-        };
-        *place = day.statement(trader).ok_or(Refusal::Unknown)?;
+        *place = self.day().statement(trader).ok_or(Refusal::Unknown)?;
         Ok(())
     }
 }

@@ -17,7 +17,6 @@ use money::vaults::deposit;
 use orders::{Holder, Lot};
 use refusals::Refusal;
 use scenario::ScenarioModel;
-use statements::days::Day;
 
 impl<M: ScenarioModel> Preparation<M> {
     /// A preparation over a model, with no trader, client, trade or price.
@@ -80,13 +79,10 @@ impl<M: ScenarioModel> Preparation<M> {
         ensures ledger { open_ledger result ≡ entered (M.ScenarioModel.table self.model) (prepared self) opening }
         ensures model { result.model ≡ self.model }
     {
-        let Preparation { model, mut book } = self;
-        let day = Day {
-            model: &model,
-            book: &book,
-        };
-        let needs = day.needs();
-        enter_needs(&mut book, &needs);
-        Session { model, book }
+        let Preparation { model, book } = self;
+        let mut session = Session { model, book };
+        let needs = session.day().needs();
+        enter_needs(&mut session.book, &needs);
+        session
     }
 }

@@ -8,7 +8,7 @@ ghost use Rattle.rules.specs.Causes.{cancel as cancelCall, withdraw as withdrawC
 ghost use Rattle.rules.specs.Ledger.{holders_trader};
 ghost use Rattle.rules.specs.Limits.{limit};
 ghost use Rattle.book.specs.Ledgers.{ledger_in};
-ghost use Rattle.session.specs.Phases.{Enters, slip_of};
+ghost use Rattle.session.specs.Phases.{open_ledger, slip_of, Enters};
 
 use crate::phases::Session;
 use crate::slips::Slip;
@@ -21,7 +21,6 @@ use money::vaults::pay_out;
 use orders::Holder;
 use refusals::Refusal;
 use scenario::ScenarioModel;
-use statements::days::Day;
 
 // Whether an amount less leaves a client's collateral below what it needs now, or needed when the session was opened.
 fn leaves_less(client: Client, need: i64, amount: Fund) -> bool
@@ -30,20 +29,7 @@ fn leaves_less(client: Client, need: i64, amount: Fund) -> bool
     client.collateral.amount - amount.amount < client.opening_need.max(need)
 }
 
-// Kept with a premise, here and in the two below: that there is the holder is a fact of the book, which no type of a slip or of a holder can say.
-// Whether what a slip hands out leaves its holder, which there is, short of its needs. Traders and the member have none.
-fn is_short<M: ScenarioModel>(day: &Day<M>, stub: Stub) -> bool
-    ensures { no_such_holder (ledger_in day.now.book.now) (holder_of stub.holder) ≡ false → result ≡ short (M.ScenarioModel.table day.now.model.now) (ledger_in day.now.book.now) (holder_of stub.holder) stub.amount.amount }
-{
-    let Holder::Client(client) = stub.holder else {
-        return false;
-    };
-    day.book
-        .client(client)
-        .zip(day.need_of(client))
-        .is_none_or(|(row, need)| leaves_less(row, need, stub.amount))
-}
-
+// Kept with a premise, here and in `is_short` and `is_uncovered`: that there is the holder is a fact of the book, which no type of a slip or of a holder can say.
 // The trader whose limit the collateral of a holder, which there is, stands behind.
 fn trader_of(book: &Book, holder: Holder) -> Option<u8>
     ensures { no_such_holder (ledger_in book.now) (holder_of holder) ≡ false → result ≡ Some (holders_trader (ledger_in book.now) (holder_of holder)) }
@@ -54,42 +40,43 @@ fn trader_of(book: &Book, holder: Holder) -> Option<u8>
     }
 }
 
-// Whether a withdrawal that was tried, of a holder that there is, leaves a client short of its needs, or the holder's trader's limit below zero.
-fn is_uncovered<M: ScenarioModel>(day: &Day<M>, tried: &Day<M>, stub: Stub) -> bool
-    ensures { no_such_holder (ledger_in day.now.book.now) (holder_of stub.holder) ≡ false → result ≡ (short (M.ScenarioModel.table day.now.model.now) (ledger_in day.now.book.now) (holder_of stub.holder) stub.amount.amount || int_lt (limit (M.ScenarioModel.table tried.now.model.now) (ledger_in tried.now.book.now) (holders_trader (ledger_in day.now.book.now) (holder_of stub.holder))) (pos 0)) }
-{
-    // Kept, for `is_none_or`: under its premise it was not proved what the closure's answer says of the holder's trader.
-    let Some(trader) = trader_of(day.book, stub.holder) else {
-        return true;
-    };
-    is_short(day, stub) || tried.limit_of(trader) < 0
-}
-
-// Whether a cancellation that was tried lowers a trader's limit, and to below zero.
-fn is_sunk<M: ScenarioModel>(day: &Day<M>, tried: &Day<M>, trader: u8) -> bool
-    ensures { result ≡ (int_lt (limit (M.ScenarioModel.table tried.now.model.now) (ledger_in tried.now.book.now) trader) (limit (M.ScenarioModel.table day.now.model.now) (ledger_in day.now.book.now) trader) && int_lt (limit (M.ScenarioModel.table tried.now.model.now) (ledger_in tried.now.book.now) trader) (pos 0)) }
-{
-    let left = tried.limit_of(trader);
-    left < day.limit_of(trader) && left < 0
-}
-
-// Kept with each day written out: where a method of the session made it, what `withdraw` has of the two days was not proved of theirs.
 impl<M: ScenarioModel> Session<M> {
+    // Whether what a slip hands out leaves its holder, which there is, short of its needs. Traders and the member have none.
+    fn is_short(&self, stub: Stub) -> bool
+        ensures { no_such_holder (open_ledger self.now) (holder_of stub.holder) ≡ false → result ≡ short (M.ScenarioModel.table self.now.model) (open_ledger self.now) (holder_of stub.holder) stub.amount.amount }
+    {
+        let Holder::Client(client) = stub.holder else {
+            return false;
+        };
+        self.book
+            .client(client)
+            .zip(self.day().need_of(client))
+            .is_none_or(|(row, need)| leaves_less(row, need, stub.amount))
+    }
+
+    // Whether a withdrawal that was tried, of a holder that there is, leaves a client short of its needs, or the holder's trader's limit below zero.
+    fn is_uncovered(&self, tried: &Book, stub: Stub) -> bool
+        ensures { no_such_holder (open_ledger self.now) (holder_of stub.holder) ≡ false → result ≡ (short (M.ScenarioModel.table self.now.model) (open_ledger self.now) (holder_of stub.holder) stub.amount.amount || int_lt (limit (M.ScenarioModel.table self.now.model) (ledger_in tried.now) (holders_trader (open_ledger self.now) (holder_of stub.holder))) (pos 0)) }
+    {
+        let trader = trader_of(&self.book, stub.holder);
+        self.is_short(stub) || trader.is_none_or(|trader| self.day_with(tried).limit_of(trader) < 0)
+    }
+
+    // Whether a cancellation that was tried lowers a trader's limit, and to below zero.
+    fn is_sunk(&self, tried: &Book, trader: u8) -> bool
+        ensures { result ≡ (int_lt (limit (M.ScenarioModel.table self.now.model) (ledger_in tried.now) trader) (limit (M.ScenarioModel.table self.now.model) (open_ledger self.now) trader) && int_lt (limit (M.ScenarioModel.table self.now.model) (ledger_in tried.now) trader) (pos 0)) }
+    {
+        let left = self.day_with(tried).limit_of(trader);
+        left < self.day().limit_of(trader) && left < 0
+    }
+
     /// Takes a trade from its client again, unless that lowers its trader's limit to below zero.
     pub fn cancel(&mut self, trade: u64) -> Result<(), Refusal>
         ensures { Enters M.ScenarioModel.table self.old (cancelCall trade) (answered (λ _. accepted) result) self.new }
     {
         let mut tried = self.book;
         let trader = release(&mut tried, trade)?;
-        let day = Day {
-            model: &self.model,
-            book: &self.book,
-        };
-        let then = Day {
-            model: &self.model,
-            book: &tried,
-        };
-        if is_sunk(&day, &then, trader) {
+        if self.is_sunk(&tried, trader) {
             return Err(Refusal::NotCovered);
         }
         self.book = tried;
@@ -102,15 +89,7 @@ impl<M: ScenarioModel> Session<M> {
     {
         let mut tried = self.book;
         let stub = pay_out(&mut tried, holder, amount)?;
-        let day = Day {
-            model: &self.model,
-            book: &self.book,
-        };
-        let then = Day {
-            model: &self.model,
-            book: &tried,
-        };
-        if is_uncovered(&day, &then, stub) {
+        if self.is_uncovered(&tried, stub) {
             return Err(Refusal::NotCovered);
         }
         self.book = tried;
