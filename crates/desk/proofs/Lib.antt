@@ -1,0 +1,4 @@
+mod Closing
+mod Ruled
+mod Slips
+mod Talking
