@@ -1,0 +1,118 @@
+//! The places of a purse.
+ghost use Rattle.std.specs.Prelude.{◌≡◌, ℕ, ◌+◌, ◌<◌, ◌∷◌, [], ◌++◌, take, drop, option_map, slice_index_or};
+ghost use Rattle.book.specs.Means.{slip_in};
+ghost use Rattle.session.specs.Phases.{slip_of};
+ghost use Rattle.purses.specs.declared.slots.Slot.TheVariants.{Empty, Full};
+ghost use Rattle.purses.specs.Slots.{slip_at};
+
+use book::stubs::Stub;
+use session::slips::Slip;
+use std::mem;
+
+// A place, with a slip or without. Only a place without one may be let go.
+pub(crate) enum Slot {
+    Empty,
+    Full(Slip),
+}
+
+impl Slot {
+    // The slip that is there.
+    pub(crate) fn into_slip(self) -> Option<Slip>
+        ensures { result ≡ slip_at self }
+    {
+        match self {
+            Slot::Empty => None,
+            Slot::Full(slip) => Some(slip),
+        }
+    }
+
+    // What the slip that is there says.
+    pub(crate) fn stub(&self) -> Option<Stub>
+        ensures { option_map slip_in result ≡ option_map slip_of (slip_at self.now) }
+    {
+        match self {
+            Slot::Empty => None,
+            Slot::Full(slip) => Some(slip.stub()),
+        }
+    }
+}
+
+impl Drop for Slot {
+    fn drop(self)
+        requires { self ≡ Empty }
+    {
+        match self {
+            Slot::Empty => {}
+            Slot::Full(_slip) => unreachable!(),
+        }
+    }
+}
+
+// The 32 places, in a struct of their own, so that one of them can be lent.
+pub(crate) struct Slots {
+    pub(crate) at: [Slot; 32],
+}
+
+impl Slots {
+    // Takes out what is at a place: those behind it move up, and the last place is left without a slip.
+    pub(crate) fn take_out(&mut self, place: usize) -> Slot
+        requires { place < 32 }
+        ensures value { result ≡ slice_index_or self.old.at place result }
+        ensures after { self.new.at ≡ take place self.old.at ++ drop (place + 1) self.old.at ++ Empty ∷ [] }
+    {
+        let slot = mem::replace(&mut self.at[place], Slot::Empty);
+        self.at[place..].rotate_left(1);
+        slot
+    }
+
+    // A slip at a place: what is there and behind it moves down, and the last place has to be without a slip.
+    pub(crate) fn put_in(&mut self, place: usize, slip: Slip)
+        requires within { place < 32 }
+        requires room { slice_index_or self.old.at 31 Empty ≡ Empty }
+        ensures { self.new.at ≡ take place self.old.at ++ Full slip ∷ drop place (take 31 self.old.at) }
+    {
+        self.at[31] = Slot::Full(slip);
+        self.at[place..].rotate_right(1);
+    }
+
+    // Ends places that are all without a slip.
+    pub(crate) fn end(self)
+        requires { (k : ℕ) → k < 32 → slice_index_or self.at k Empty ≡ Empty }
+    {
+        let Slots { at } = self;
+        let [
+            _s0,
+            _s1,
+            _s2,
+            _s3,
+            _s4,
+            _s5,
+            _s6,
+            _s7,
+            _s8,
+            _s9,
+            _s10,
+            _s11,
+            _s12,
+            _s13,
+            _s14,
+            _s15,
+            _s16,
+            _s17,
+            _s18,
+            _s19,
+            _s20,
+            _s21,
+            _s22,
+            _s23,
+            _s24,
+            _s25,
+            _s26,
+            _s27,
+            _s28,
+            _s29,
+            _s30,
+            _s31,
+        ] = at;
+    }
+}
