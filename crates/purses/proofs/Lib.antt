@@ -1,0 +1,3 @@
+mod Rows
+mod Searched
+pub mod Spent

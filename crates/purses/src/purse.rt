@@ -5,6 +5,7 @@ ghost use Rattle.purses.specs.Slots.{row, slips_at};
 use crate::slots::Slots;
 
 pub mod carrying;
+pub mod reading;
 
 /// Up to 32 slips that wait to be spent, one behind the other. Like a slip, it is neither copied nor let go.
 pub struct Purse {

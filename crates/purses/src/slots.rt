@@ -3,7 +3,7 @@ ghost use Rattle.std.specs.Prelude.{◌≡◌, ℕ, ◌+◌, ◌<◌, ◌∷◌,
 ghost use Rattle.book.specs.Means.{slip_in};
 ghost use Rattle.session.specs.Phases.{slip_of};
 ghost use Rattle.purses.specs.declared.slots.Slot.TheVariants.{Empty, Full};
-ghost use Rattle.purses.specs.Slots.{slip_at};
+ghost use Rattle.purses.specs.Slots.{slip_at, has_serial, says};
 
 use book::stubs::Stub;
 use session::slips::Slip;
@@ -34,6 +34,21 @@ impl Slot {
             Slot::Empty => None,
             Slot::Full(slip) => Some(slip.stub()),
         }
+    }
+
+    // Whether a slip with a serial is there.
+    pub(crate) fn has_serial(&self, serial: u64) -> bool
+        ensures { result ≡ has_serial serial self.now }
+    {
+        self.stub()
+            .is_some_and(|stub| u64::from(stub.serial) == serial)
+    }
+
+    // Whether a slip that says the same is there.
+    pub(crate) fn says(&self, stub: Stub) -> bool
+        ensures { result ≡ says (slip_in stub) self.now }
+    {
+        self.stub() == Some(stub)
     }
 }
 
@@ -69,7 +84,7 @@ impl Slots {
     pub(crate) fn put_in(&mut self, place: usize, slip: Slip)
         requires within { place < 32 }
         requires room { slice_index_or self.old.at 31 Empty ≡ Empty }
-        ensures { self.new.at ≡ take place self.old.at ++ Full slip ∷ drop place (take 31 self.old.at) }
+        ensures { self.new.at ≡ take place (take 31 self.old.at) ++ Full slip ∷ drop place (take 31 self.old.at) }
     {
         self.at[31] = Slot::Full(slip);
         self.at[place..].rotate_right(1);
