@@ -5,6 +5,7 @@ ghost use Rattle.purses.specs.Held.{held};
 use crate::purse::Purse;
 use crate::slots::{Slot, Slots};
 use session::slips::Slip;
+use std::mem;
 
 impl Purse {
     /// A purse with no slip in it.
@@ -36,7 +37,8 @@ impl Purse {
         if self.len() >= 32 || place > self.len() {
             return Err(slip);
         }
-        self.slots.put_in(place, slip);
+        self.slots.at[31] = Slot::Full(slip);
+        self.slots.at[place..].rotate_right(1);
         self.count += 1;
         Ok(())
     }
@@ -49,7 +51,8 @@ impl Purse {
         if place >= self.len() {
             return None;
         }
-        let slot = self.slots.take_out(place);
+        let slot = mem::replace(&mut self.slots.at[place], Slot::Empty);
+        self.slots.at[place..].rotate_left(1);
         self.count -= 1;
         slot.into_slip()
     }
@@ -58,7 +61,7 @@ impl Purse {
     pub fn close(self) -> Result<(), Purse>
         ensures { MatchResult result (λ _. held self ≡ []) (λ purse. (purse ≡ self) × (0 < length (held self))) }
     {
-        if self.len() > 0 {
+        if !self.is_empty() {
             return Err(self);
         }
         let Purse { slots, count: _ } = self;
