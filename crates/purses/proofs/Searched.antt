@@ -1,5 +1,5 @@
 -- What a search among the 32 places of a purse finds. Assumes nothing.
-use Rattle.std.proofs.Common.{◌≡◌, ℕ, zero, suc, ◌<◌, ◌≤◌, ◌-◌, Bool, true, false, cond, ◌||◌, eqb, List, [], ◌∷◌, ◌++◌, map, length, get_or, replicate, Some, None, Option, MatchOption, sym, refl, ap, ◌∙◌, ⊎_elim, inl, inr, arith}
+use Rattle.std.proofs.Common.{◌≡◌, ℕ, zero, suc, ◌<◌, ◌≤◌, ◌-◌, Bool, true, false, cond, ◌||◌, eqb, List, [], ◌∷◌, ◌++◌, map, length, get_or, replicate, Some, None, Option, MatchOption, sym, refl, ◌∙◌, inl, inr, arith}
 use Rattle.std.specs.List.{list_any, AllWithin, HoldsAt}
 use Rattle.std.proofs.lemmas.Bool.{eq-eqb, eqb-true, false≢true, cases_lt}
 use Rattle.std.proofs.lemmas.List.{length-map, length-append, length-replicate}
@@ -61,9 +61,9 @@ module _ (serial : ℕ) where
   found ss (Some k) few (l, f, h) =
       elim (cases_lt k (length ss)) [
         | inl i ↦ record {
-            within = omega (arith, length-map ss slip_of, i);
-            same = eqb-true (get_or (map slip_of ss) k no_slip).serial serial (sym (serial_at ss (32 - length ss) k i) ∙ f Empty);
-            before = others ss k (omega arith) few h;
-          }
+          within = omega (arith, length-map ss slip_of, i);
+          same = eqb-true (get_or (map slip_of ss) k no_slip).serial serial (sym (serial_at ss (32 - length ss) k i) ∙ f Empty);
+          before = others ss k (omega arith) few h;
+        }
         | inr i ↦ absurd (false≢true (sym (no_serial ss (32 - length ss) k i) ∙ f Empty))
       ]

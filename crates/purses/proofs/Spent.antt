@@ -1,5 +1,5 @@
 -- Slips that are taken out of a purse, put in, and put back where they were. Assumes nothing.
-use Rattle.std.proofs.Common.{◌≡◌, ℕ, zero, suc, ◌+◌, ◌<◌, ◌≤◌, Bool, true, false, cond, ◌&&◌, eqb, List, [], ◌∷◌, ◌++◌, map, length, get_or, take, drop, Some, None, ap, sym, refl, ◌∙◌, add-one, arith}
+use Rattle.std.proofs.Common.{◌≡◌, ℕ, zero, suc, ◌+◌, ◌<◌, ◌≤◌, Bool, true, false, cond, eqb, List, [], ◌∷◌, ◌++◌, map, length, get_or, take, drop, Some, None, ap, sym, refl, ◌∙◌, add-one, arith}
 use Rattle.std.specs.List.{slice_get}
 use Rattle.std.proofs.lemmas.Bool.{eqb-true, and_parts, cond-true}
 use Rattle.std.proofs.lemmas.List.{length-map, map-append, map_push, take-map, drop-map, get_or-map}
@@ -9,7 +9,7 @@ use Rattle.rules.proofs.Slips.{slip_itself, stands}
 use Rattle.session.specs.Phases.{slip_of}
 use Rattle.session.specs.declared.slips.Slip.{Slip as Held}
 use Rattle.purses.specs.declared.purse.Purse.{Purse}
-use Rattle.purses.specs.Held.{held, slips_in, FirstOf}
+use Rattle.purses.specs.Held.{held, slips_in, Others, FirstOf}
 
 -- ---- how many there are
 
@@ -41,7 +41,25 @@ first_struck ss serial k f = rw (add-one k) (at ss k f.within (λ j h e. f.befor
 pub first_of_all : (ss : List Slip) → 0 < length ss → FirstOf ss (get_or ss 0 no_slip).serial 0
 first_of_all ss h = record { within = h; same = refl; before = λ j l. absurd (omega arith) }
 
+-- a slip stands only with the serial of one of them
+pub others_stand_not : (s : Slip) (ss : List Slip) → Others ss (length ss) s.serial → is_standing s ss ≡ false
+others_stand_not s [] h = refl
+others_stand_not s (x ∷ ss) h = go (same_slip s x) refl (others_stand_not s ss (λ k l e. h (suc k) (omega arith) e))
+  where
+    go : (t : Bool) → same_slip s x ≡ t → is_standing s ss ≡ false → cond t true (is_standing s ss) ≡ false
+    go true q e = absurd (h 0 (omega arith) (sym (eqb-true _ _ (and_parts (eqb s.serial x.serial) (same_holder s.holder x.holder) (and_parts _ _ q).0).0)))
+    go false q e = e
+
 -- ---- by what they say
+
+-- within the purse there is a slip to take
+pub there_to_take : (p : Purse) (k : ℕ) → k < length (slips_in p) → slice_get (held p) k ≡ None → ⊥
+there_to_take p k h e = at (held p) k (omega (arith, h, length_slips_in p)) e
+  where
+    at : (xs : List Held) (k : ℕ) → k < length xs → slice_get xs k ≡ None → ⊥
+    at [] k h e = omega arith
+    at (x ∷ xs) zero h e = let z : ◌≡◌ {A = ℕ} 0 1 = cc in omega arith
+    at (x ∷ xs) (suc k) h e = at xs k (omega arith) e
 
 -- the slip that is taken out
 pub taken_says : (p : Purse) (k : ℕ) (s : Held) → slice_get (held p) k ≡ Some s → slip_of s ≡ get_or (slips_in p) k no_slip

@@ -1,13 +1,12 @@
 //! The places of a purse.
-ghost use Rattle.std.specs.Prelude.{◌≡◌, ℕ, ◌+◌, ◌<◌, ◌∷◌, [], ◌++◌, take, drop, option_map, slice_index_or};
+ghost use Rattle.std.specs.Prelude.{◌≡◌, ℕ, ◌<◌, option_map, slice_index_or};
 ghost use Rattle.book.specs.Means.{slip_in};
 ghost use Rattle.session.specs.Phases.{slip_of};
-ghost use Rattle.purses.specs.declared.slots.Slot.TheVariants.{Empty, Full};
+ghost use Rattle.purses.specs.declared.slots.Slot.TheVariants.{Empty};
 ghost use Rattle.purses.specs.Slots.{slip_at, has_serial, says};
 
 use book::stubs::Stub;
 use session::slips::Slip;
-use std::mem;
 
 // A place, with a slip or without. Only a place without one may be let go.
 pub(crate) enum Slot {
@@ -40,7 +39,8 @@ impl Slot {
     pub(crate) fn has_serial(&self, serial: u64) -> bool
         ensures { result ≡ has_serial serial self.now }
     {
-        self.stub().is_some_and(|stub| u64::from(stub.serial) == serial)
+        self.stub()
+            .is_some_and(|stub| u64::from(stub.serial) == serial)
     }
 
     // Whether a slip that says the same is there.
@@ -62,34 +62,17 @@ impl Drop for Slot {
     }
 }
 
-// The 32 places, in a struct of their own, so that one of them can be lent.
+// The 32 places.
+// Kept in a struct of their own: with the row itself as a field of the purse, beside the facts about it, `take` was tried, and the
+// checker could not build its part of the proof.
 pub(crate) struct Slots {
     pub(crate) at: [Slot; 32],
 }
 
 impl Slots {
-    // Takes out what is at a place: those behind it move up, and the last place is left without a slip.
-    pub(crate) fn take_out(&mut self, place: usize) -> Slot
-        requires { place < 32 }
-        ensures value { result ≡ slice_index_or self.old.at place result }
-        ensures after { self.new.at ≡ take place self.old.at ++ drop (place + 1) self.old.at ++ Empty ∷ [] }
-    {
-        let slot = mem::replace(&mut self.at[place], Slot::Empty);
-        self.at[place..].rotate_left(1);
-        slot
-    }
-
-    // A slip at a place: what is there and behind it moves down, and the last place has to be without a slip.
-    pub(crate) fn put_in(&mut self, place: usize, slip: Slip)
-        requires within { place < 32 }
-        requires room { slice_index_or self.old.at 31 Empty ≡ Empty }
-        ensures { self.new.at ≡ take place (take 31 self.old.at) ++ Full slip ∷ drop place (take 31 self.old.at) }
-    {
-        self.at[31] = Slot::Full(slip);
-        self.at[place..].rotate_right(1);
-    }
-
     // Ends places that are all without a slip.
+    // Kept by 32 names: a loop over the row by value and `map` were tried, and neither is proved where letting go of an element asks
+    // for something; the row as a whole is not let go either.
     pub(crate) fn end(self)
         requires { (k : ℕ) → k < 32 → slice_index_or self.at k Empty ≡ Empty }
     {

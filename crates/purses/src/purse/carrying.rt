@@ -1,13 +1,11 @@
-//! What is done with a purse.
-ghost use Rattle.std.specs.Prelude.{◌≡◌, ◌+◌, ◌<◌, ◌≤◌, ◌==◌, [], ◌∷◌, ◌++◌, length, take, drop, Ok, Err, option_map, slice_get, MatchOption, MatchResult};
-ghost use Rattle.rules.specs.Ledger.{is_standing};
-ghost use Rattle.book.specs.Means.{slip_in};
-ghost use Rattle.purses.specs.Held.{held, slips_in, Others, FirstOf};
+//! A purse's beginning and end, and the slips that come and go.
+ghost use Rattle.std.specs.Prelude.{◌≡◌, ◌+◌, ◌<◌, ◌≤◌, [], ◌∷◌, ◌++◌, length, take, drop, Ok, Err, slice_get, MatchResult};
+ghost use Rattle.purses.specs.Held.{held};
 
 use crate::purse::Purse;
 use crate::slots::{Slot, Slots};
-use book::stubs::Stub;
 use session::slips::Slip;
+use std::mem;
 
 impl Purse {
     /// A purse with no slip in it.
@@ -22,48 +20,12 @@ impl Purse {
         }
     }
 
-    /// How many slips are in it.
-    pub fn len(&self) -> usize
-        ensures value { result ≡ length (held self.now) }
-        ensures few { result ≤ 32 }
-    {
-        self.count
-    }
-
-    /// Whether no slip is in it.
-    pub fn is_empty(&self) -> bool
-        ensures { result ≡ (length (held self.now) == 0) }
-    {
-        self.count == 0
-    }
-
-    /// What the slip at a place says. `None` past the last.
-    pub fn stub(&self, place: usize) -> Option<Stub>
-        ensures { option_map slip_in result ≡ slice_get (slips_in self.now) place }
-    {
-        self.slots.at.get(place)?.stub()
-    }
-
-    /// The place of the first slip with a serial. `None` where each has another.
-    pub fn find(&self, serial: u64) -> Option<usize>
-        ensures { MatchOption result (Others (slips_in self.now) (length (slips_in self.now)) serial) (FirstOf (slips_in self.now) serial) }
-    {
-        self.slots.at.iter().position(|slot| slot.has_serial(serial))
-    }
-
-    /// Whether a slip in it says the same.
-    pub fn holds(&self, stub: Stub) -> bool
-        ensures { result ≡ is_standing (slip_in stub) (slips_in self.now) }
-    {
-        self.slots.at.iter().any(|slot| slot.says(stub))
-    }
-
     /// A slip more, behind the others. It comes back, with nothing changed, where 32 are in the purse.
     pub fn put(&mut self, slip: Slip) -> Result<(), Slip>
         ensures room { length (held self.old) < 32 → (result ≡ Ok tt) × (held self.new ≡ held self.old ++ slip ∷ []) }
         ensures full { 32 ≤ length (held self.old) → (result ≡ Err slip) × (held self.new ≡ held self.old) }
     {
-        self.insert(self.count, slip)
+        self.insert(self.len(), slip)
     }
 
     /// A slip more, at a place, before those from there on. It comes back, with nothing changed, where 32 are in the purse or the place is past the end.
@@ -72,10 +34,11 @@ impl Purse {
         ensures full { 32 ≤ length (held self.old) → (result ≡ Err slip) × (held self.new ≡ held self.old) }
         ensures past { length (held self.old) < place → (result ≡ Err slip) × (held self.new ≡ held self.old) }
     {
-        if self.count >= 32 || place > self.count {
+        if self.len() >= 32 || place > self.len() {
             return Err(slip);
         }
-        self.slots.put_in(place, slip);
+        self.slots.at[31] = Slot::Full(slip);
+        self.slots.at[place..].rotate_right(1);
         self.count += 1;
         Ok(())
     }
@@ -85,10 +48,11 @@ impl Purse {
         ensures value { result ≡ slice_get (held self.old) place }
         ensures after { held self.new ≡ take place (held self.old) ++ drop (place + 1) (held self.old) }
     {
-        if place >= self.count {
+        if place >= self.len() {
             return None;
         }
-        let slot = self.slots.take_out(place);
+        let slot = mem::replace(&mut self.slots.at[place], Slot::Empty);
+        self.slots.at[place..].rotate_left(1);
         self.count -= 1;
         slot.into_slip()
     }
@@ -97,7 +61,7 @@ impl Purse {
     pub fn close(self) -> Result<(), Purse>
         ensures { MatchResult result (λ _. held self ≡ []) (λ purse. (purse ≡ self) × (0 < length (held self))) }
     {
-        if self.count > 0 {
+        if !self.is_empty() {
             return Err(self);
         }
         let Purse { slots, count: _ } = self;

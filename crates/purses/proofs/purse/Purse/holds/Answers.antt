@@ -1,10 +1,9 @@
-use Rattle.std.proofs.Common.{List, ap, ◌∙◌, rules}
+use Rattle.std.proofs.Common.{ap, ◌∙◌, rules}
 use borrow.Author.Tests.{tests}
 use Rattle.std.specs.List.{list_any}
 use Rattle.std.proofs.lemmas.Iterator.{YieldsList-from_slice}
 use Rattle.std.proofs.lemmas.Iterator.Search.{any_from_yields_List}
 use Rattle.book.specs.Means.{slip_in}
-use Rattle.purses.specs.declared.slots.Slot.{Slot}
 use Rattle.purses.specs.Slots.{says}
 use Rattle.purses.specs.Held.{held}
 use Rattle.purses.proofs.Searched.{says-row}
