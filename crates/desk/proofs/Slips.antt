@@ -1,5 +1,5 @@
 -- What calls with slips leave of those that stand. Assumes nothing.
-use Rattle.std.proofs.Common.{◌≡◌, ℕ, zero, suc, ◌<◌, Bool, true, false, cond, not, ◌||◌, eqb, ltb, List, [], ◌∷◌, ◌++◌, map, length, get_or, take, drop, ◌+◌, ◌≤◌, ℤ, Some, None, Option, sym, refl, ap, ◌∙◌, subst, arith}
+use Rattle.std.proofs.Common.{◌≡◌, ℕ, zero, suc, ◌<◌, Bool, true, false, cond, not, ◌||◌, eqb, ltb, List, [], ◌∷◌, ◌++◌, map, length, get_or, take, drop, ◌+◌, ℤ, Some, None, Option, sym, refl, ap, ◌∙◌, subst, arith}
 use Rattle.std.proofs.lemmas.Bool.{false≢true, eqb-true, eq-eqb, ltb-true}
 use Rattle.scenario.specs.Table.{ScenarioTable}
 use Rattle.rules.specs.Bounds.{most_slips}
@@ -15,7 +15,7 @@ use Rattle.session.specs.declared.slips.Slip.{Slip as Held}
 use Rattle.session.specs.Phases.{slip_of}
 use Rattle.purses.specs.declared.purse.Purse.{Purse}
 use Rattle.purses.specs.Held.{held, slips_in, Others, FirstOf}
-use Rattle.purses.proofs.Spent.{length_slips_in, first_stands, first_struck, taken_says, slips_taken}
+use Rattle.purses.proofs.Spent.{there_to_take, first_stands, first_struck, taken_says, slips_taken}
 use Rattle.desk.specs.declared.spending.Spending.{Spending}
 use Rattle.desk.specs.declared.spending.Spending.TheVariants.{Settle, PutBack}
 use Rattle.desk.specs.Meant.{with_serial}
@@ -104,11 +104,6 @@ module _ (m : ScenarioTable) (l : Ledger) where
 
 -- ---- a slip that is taken out of a purse
 
-past : {X : Type 0} (xs : List X) (k : ℕ) → None ≡ slice_get xs k → length xs ≤ k
-past [] k e = omega arith
-past (x ∷ xs) zero e = let z : ◌≡◌ {A = ℕ} 0 1 = cc in absurd (omega arith)
-past (x ∷ xs) (suc k) e = let h = past xs k e in omega arith
-
 pub taken_none : (ss : List Slip) (n : ℕ) (r : Option Held) → r ≡ None → Others ss (length ss) n → TakenOut ss n r ss
 taken_none ss n r e h = subst (λ (o : Option Held). TakenOut ss n o ss) (sym e) (serial_none ss n h, refl)
 
@@ -119,9 +114,10 @@ taken_out p q n k r f e h = go r e
     ss = slips_in p
 
     go : (r : Option Held) → r ≡ slice_get (held p) k → TakenOut ss n r (slips_in q)
-    go None e = let w = f.within in let h = past (held p) k e in absurd (omega (arith, length_slips_in p))
+    go None e = absurd (there_to_take p k f.within (sym e))
     go (Some s) e =
-        let says : slip_of s ≡ get_or ss k no_slip = taken_says p k s (sym e) in
-        (serial_first ss n k f ∙ ap Some (sym says),
-         ap (λ (v : Slip). is_standing v ss) says ∙ first_stands ss n k f,
-         ap (map slip_of) h ∙ slips_taken (held p) k ∙ sym (first_struck ss n k f) ∙ ap (λ (v : Slip). struck v ss) (sym says))
+        let says : slip_of s ≡ get_or ss k no_slip = taken_says p k s (sym e) in (
+          serial_first ss n k f ∙ ap Some (sym says),
+          ap (λ (v : Slip). is_standing v ss) says ∙ first_stands ss n k f,
+          ap (map slip_of) h ∙ slips_taken (held p) k ∙ sym (first_struck ss n k f) ∙ ap (λ (v : Slip). struck v ss) (sym says),
+        )

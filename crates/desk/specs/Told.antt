@@ -1,5 +1,6 @@
 -- What a desk is asked and told. Assumes nothing.
 use Rattle.std.specs.Prelude.{ℕ, Option}
+use Rattle.scenario.specs.Table.{ScenarioTable}
 use Rattle.orders.specs.declared.Order.{Order}
 use Rattle.refusals.specs.Numbers.{number_of}
 use Rattle.rules.specs.Ledger.{Slip}
@@ -33,7 +34,7 @@ told_of replies.Accepted = done
 told_of (replies.Refused e) = refused (number_of e)
 told_of (replies.Misplaced why) = astray why
 
--- the desk is asked for its next order, or told what became of one
+-- the desk is lent the table of a model and asked for its next order, or told what became of one
 pub data Step : Type 0 where
-  asked : Option Order → Step
+  asked : ScenarioTable → Option Order → Step
   told : Told → Step

@@ -13,9 +13,9 @@ pub trait Desk {
     /// What was asked and told between two moments of a desk: the second is what the first has become by it.
     ghost past: { Self → Self → List Step → Type 0 };
 
-    /// The next order, `None` where there is none any more. The model of the day is lent meanwhile.
+    /// The next order, `None` where there is none any more. Meanwhile the model of the day is lent.
     fn next<M: ScenarioModel>(&mut self, model: &M) -> Option<Order>
-        ensures { (d : Self) (h : List Step) → past d self.old h → past d self.new (h ++ asked result ∷ []) };
+        ensures { (d : Self) (h : List Step) → past d self.old h → past d self.new (h ++ asked (M.ScenarioModel.table model.now) result ∷ []) };
 
     /// Takes the reply to the last order, where it asked for no statement.
     fn tell(&mut self, reply: Reply)

@@ -50,11 +50,7 @@ fn answer<D: Desk>(desk: &mut D, outcome: Outcome, place: &Statement)
 }
 
 // Carries out the orders of a session until the desk has no more.
-fn trade<M: ScenarioModel, D: Desk>(
-    session: &mut Session<M>,
-    holdings: &mut Holdings,
-    desk: &mut D,
-)
+fn trade<M: ScenarioModel, D: Desk>(session: &mut Session<M>, holdings: &mut Holdings, desk: &mut D)
     requires { slips_in holdings.old.held ≡ (open_ledger session.old).slips }
     ensures talk { (first : D) (es : List Event) → Trading D.past (M.ScenarioModel.table session.old.model) (slips_in holdings.old.brought) first desk.old es (open_ledger session.old) 0 → Traded D.past (M.ScenarioModel.table session.old.model) (slips_in holdings.old.brought) first desk.new es (open_ledger session.new) }
     ensures model { session.new.model ≡ session.old.model }

@@ -27,16 +27,13 @@ fn done(answer: Result<(), Refusal>) -> Reply
 }
 
 /// Works out the statement of a trader, in the place that is lent.
-fn state<M: ScenarioModel>(
-    session: &Session<M>,
-    trader: u64,
-    place: &mut Statement,
-) -> Outcome
+fn state<M: ScenarioModel>(session: &Session<M>, trader: u64, place: &mut Statement) -> Outcome
     ensures { Turned (M.ScenarioModel.table session.now.model) (makes (statementCall trader)) (outcome_told result place.new) (open_ledger session.now) (open_ledger session.now) }
 {
-    session
-        .statement(trader, place)
-        .map_or_else(|refusal| Outcome::Replied(Reply::Refused(refusal)), |()| Outcome::Stated(trader))
+    session.statement(trader, place).map_or_else(
+        |refusal| Outcome::Replied(Reply::Refused(refusal)),
+        |()| Outcome::Stated(trader),
+    )
 }
 
 /// Carries out an order of a session. A statement is worked out in the place that is lent.
