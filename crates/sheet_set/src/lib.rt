@@ -29,8 +29,8 @@ fn two() -> Two
     }
 }
 
-// Fills the sheet at a place. Kept by arms, here and in `sheet`: two models in one are a pair, so that the set is a nest
-// of pairs, and each arm names one way through it.
+// Fills the sheet at a place.
+// Kept by arms, here and in `sheet`: two models in one are a pair, so that the set is a nest of pairs, and each arm names one way through it.
 fn fill_at(sheets: &mut Eight, place: u8, file: &[u8]) -> Result<(), Refusal>
     requires { place < 8 }
     ensures answer { refusal_of result ≡ sheet_cause file.now }
