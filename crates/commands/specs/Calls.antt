@@ -1,5 +1,5 @@
 -- The orders that lines give, each by its first word and the words after it. Assumes nothing.
-use Rattle.std.specs.Prelude.{ℕ, cond, List, None, codes, Option}
+use Rattle.std.specs.Prelude.{ℕ, cond, List, [], ◌∷◌, None, codes, Option}
 use Rattle.std.specs.Option.{option_map, option_or}
 use Rattle.std.specs.Str.{bytes_eq}
 use Rattle.orders.specs.declared.Order.{Order}
@@ -37,3 +37,8 @@ settlement w ws =
 -- the order of a line that begins with the word w, if it is one
 abbrev pub order_by : List ℕ → List (List ℕ) → Option Order
 order_by w ws = option_or (preparation w ws) (option_or (trading w ws) (settlement w ws))
+
+-- the order of a line, by its words
+abbrev pub order_in : List (List ℕ) → Option Order
+order_in [] = None
+order_in (w ∷ ws) = order_by w ws

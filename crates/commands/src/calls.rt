@@ -6,7 +6,7 @@ ghost use Rattle.commands.specs.Fields.{no_words};
 ghost use Rattle.console.specs.Words.{words};
 
 use crate::fields::{collateral, number_and_lot, one, two};
-use console::is_blank;
+use console::{is_blank, next_word};
 use orders::Order;
 
 // The order, where no word follows its own.
@@ -89,4 +89,12 @@ pub fn order_by(verb: &str, rest: &str) -> Option<Order>
     preparation(verb, rest)
         .or_else(|| trading(verb, rest))
         .or_else(|| settlement(verb, rest))
+}
+
+/// The order that a line gives; `None` if it gives none.
+pub fn order_of(line: &str) -> Option<Order>
+    ensures { result ≡ called.order_in (words line.now) }
+{
+    let (verb, rest) = next_word(line)?;
+    order_by(verb, rest)
 }

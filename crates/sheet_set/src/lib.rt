@@ -106,4 +106,19 @@ impl SheetSet {
     {
         &self.sheets
     }
+
+    /// How many sheets were read.
+    pub fn len(&self) -> usize
+        ensures { result ≡ self.now.read }
+    {
+        usize::from(self.read)
+    }
+
+    /// The sheets, handed over as one model.
+    pub fn into_model(self) -> Eight
+        ensures { result ≡ self.sheets }
+    {
+        let SheetSet { sheets, read: _ } = self;
+        sheets
+    }
 }
