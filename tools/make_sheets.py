@@ -132,6 +132,10 @@ FILES["series_signed.bin"] = series([
     (255, [0, 100000000, -100000000, 99999999, -99999999]),
 ])
 
+# The sheets of the day in crates/limits/day: a dollar future that may move by 10,400.00 either way, and a small one by 1.00.
+FILES["dollar.bin"] = series([(1, [0, -1040000, 1040000])])
+FILES["small.bin"] = series([(2, [0, -100, 100])])
+
 # The longest file, 65536 bytes, nearly all of it a gap between its areas.
 #   contract 30:  0 -65536        contract 31:  0 65535
 FILES["series_longest.bin"] = series([(30, [0, -65536]), (31, [0, 65535])], scenario_area=65536 - 16)
