@@ -43,12 +43,18 @@ LINES = [
     b"contract 99999999999999999999999999999999999999999",
     b"sheet stri\xffkes.bin",
     b"\xc3\xa7",
+    b"contract 40".ljust(4096),  # as long as a line may be
+    b"contract 40".ljust(4097),
+    b"#" * 100_000,
+    b"contract 40\r",
     "contract 4\u0660".encode(),  # a digit, but not a decimal one of ASCII
     b"sheet factors_gaps.bin",
     b"contract 10",
 ]
 
 WAIT = 5  # seconds
+
+LONGEST = 4096  # bytes of a line
 
 
 def next_line(pipe):
@@ -65,10 +71,12 @@ def next_line(pipe):
 
 
 def expected(sheets, line):
+    if len(line) > LONGEST:
+        return "unreadable the line is too long"
     if line == b"sheet /dev/zero":
         return answer(sheets, "sheet refused_1_long.bin")
     try:
-        return answer(sheets, line.decode())
+        return answer(sheets, line.removesuffix(b"\r").decode())
     except UnicodeDecodeError:
         return "unreadable not a line of this program"
 

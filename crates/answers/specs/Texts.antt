@@ -1,15 +1,12 @@
--- The console's answers, as text. Assumes nothing.
+-- The console's answers about sheets, as text. Assumes nothing.
 use Rattle.std.specs.Prelude.{ℕ, zero, suc, cond, List, [], ◌++◌, Some, None, Ok, Err, codes, decimal, Option, Result, ◌==◌}
 use Rattle.std.specs.Fmt.{signed_decimal}
 use Rattle.refusals.specs.declared.Refusal.{Refusal}
 use Rattle.refusals.specs.declared.Refusal.TheVariants.{Unknown}
-use Rattle.refusals.specs.Numbers.{number_of, text_of}
 use Rattle.layout.specs.Fields.{kind, contracts, scenarios}
 use Rattle.scenario.specs.Table.{ScenarioTable}
-
--- a refusal: its number, and one line for people
-abbrev pub refused_text : Refusal → List ℕ
-refused_text e = codes "refused " ++ (decimal (number_of e) ++ (codes " " ++ text_of e))
+use Rattle.replies.specs.declared.notes.Misplaced.TheVariants.{SheetsFull}
+use Rattle.replies.specs.Texts.{refused_text, misplaced_text}
 
 -- the name of a kind of sheet, by its number in a file
 abbrev pub kind_name : ℕ → List ℕ
@@ -21,13 +18,13 @@ sheet_text place b =
     codes "sheet " ++ (decimal place ++ (codes " " ++ (kind_name (kind b) ++ (codes " contracts " ++ (decimal (contracts b) ++ (codes " scenarios " ++ decimal (scenarios b)))))))
 
 -- a file that finds no place
-abbrev pub misplaced_text : List ℕ
-misplaced_text = codes "misplaced eight sheets are read already"
+abbrev pub no_place_text : List ℕ
+no_place_text = misplaced_text SheetsFull
 
 -- what reading the file b into the set of sheets came to
 abbrev pub added_text : Result (Option ℕ) Refusal → List ℕ → List ℕ
 added_text (Ok (Some place)) b = sheet_text place b
-added_text (Ok None) b = misplaced_text
+added_text (Ok None) b = no_place_text
 added_text (Err e) b = refused_text e
 
 -- a contract's shocks in the first n scenarios, each after a space

@@ -1,6 +1,6 @@
 //! The kinds of sheet.
 
-ghost use Rattle.std.specs.Prelude.{Some};
+ghost use Rattle.std.specs.Prelude.{◌≡◌, Some};
 ghost use Rattle.layout.specs.Kinds.{Decodes, name_of};
 
 use std::fmt;
@@ -35,14 +35,23 @@ impl TryFrom<u16> for Kind {
     }
 }
 
+impl Kind {
+    /// One word for people.
+    pub fn text(self) -> &'static str
+        ensures { result.now ≡ name_of self }
+    {
+        match self {
+            Kind::Factors => "factors",
+            Kind::Series => "series",
+            Kind::Strikes => "strikes",
+        }
+    }
+}
+
 impl fmt::Display for Kind {
     ghost output = { λ x. Some (name_of x) };
 
     fn fmt<W: fmt::Write>(&self, f: &mut fmt::Formatter<W>) -> fmt::Result {
-        f.write_str(match self {
-            Kind::Factors => "factors",
-            Kind::Series => "series",
-            Kind::Strikes => "strikes",
-        })
+        f.write_str(self.text())
     }
 }

@@ -11,7 +11,7 @@ pub within : (l : Line) → length (written l) ≤ room
 within l = omega (arith, length_listed l.bytes, l.bytes.within)
 
 -- what is cut off changes nothing of what is cut off later
-take_cut : (n : ℕ) (xs ys : List ℕ) → take n (take n xs ++ ys) ≡ take n (xs ++ ys)
+pub take_cut : (n : ℕ) (xs ys : List ℕ) → take n (take n xs ++ ys) ≡ take n (xs ++ ys)
 take_cut zero xs ys = refl
 take_cut (suc n) [] ys = refl
 take_cut (suc n) (x ∷ xs) ys = ap (λ (l : List ℕ). x ∷ l) (take_cut n xs ys)
@@ -33,13 +33,17 @@ pub followed_none : (l : Line) → written l ≡ followed (written l) []
 unfolding followed
 followed_none l = sym (ap (take room) (append-nil (written l)) ∙ take_all room (written l) (within l))
 
--- a byte is written, if there is room
+-- a byte is put behind a text, if there is room
+pub cut_byte : (xs c : List ℕ) (b : ℕ) → length xs ≤ room → (length xs < room → c ≡ xs ++ b ∷ []) → (room ≤ length xs → c ≡ xs) → c ≡ take room (xs ++ b ∷ [])
+cut_byte xs c b fits f g = elim (cases_lt (length xs) room) [
+  | inl h ↦ f h ∙ sym (take_all room (xs ++ b ∷ []) (omega (arith, length-append xs (b ∷ []))))
+  | inr h ↦ g h ∙ sym (take-append-le room xs (b ∷ []) h ∙ take_all room xs fits)
+]
+
+-- and so it is written
 pub followed_byte : (l : Line) (b : ℕ) (c : List ℕ) → (length (written l) < room → c ≡ written l ++ b ∷ []) → (room ≤ length (written l) → c ≡ written l) → c ≡ followed (written l) (b ∷ [])
 unfolding followed
-followed_byte l b c f g = elim (cases_lt (length (written l)) room) [
-  | inl h ↦ f h ∙ sym (take_all room (written l ++ b ∷ []) (omega (arith, length-append (written l) (b ∷ []))))
-  | inr h ↦ g h ∙ sym (take-append-le room (written l) (b ∷ []) h ∙ take_all room (written l) (within l))
-]
+followed_byte l b c = cut_byte (written l) c b (within l)
 
 -- one byte more of a text
 pub followed_more : (a b c bs : List ℕ) (i : ℕ) → i < length bs → b ≡ followed a (take i bs) → c ≡ followed b (get_or bs i 0 ∷ []) → c ≡ followed a (take (i + 1) bs)

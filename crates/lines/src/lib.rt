@@ -25,6 +25,15 @@ impl Line {
         Line { bytes: Rows::new() }
     }
 
+    /// A line on which a value is written.
+    pub fn of<T: Shown>(value: T) -> Line
+        ensures { written result ≡ followed [] (T.text value) }
+    {
+        let mut line = Line::new();
+        line.push(value);
+        line
+    }
+
     /// What is written.
     pub fn as_bytes(&self) -> &[u8]
         ensures { result.now ≡ written self.now }
@@ -99,6 +108,24 @@ impl Shown for &str {
 
     fn show(self, line: &mut Line) {
         line.push_bytes(self.as_bytes());
+    }
+}
+
+/// A small number, in decimal digits.
+impl Shown for u8 {
+    ghost text = { decimal };
+
+    fn show(self, line: &mut Line) {
+        line.push(u16::from(self));
+    }
+}
+
+/// A short number, in decimal digits.
+impl Shown for u16 {
+    ghost text = { decimal };
+
+    fn show(self, line: &mut Line) {
+        line.push(u64::from(self));
     }
 }
 
