@@ -1,0 +1,44 @@
+//! What a line of the input asks.
+use commands::calls::order_of;
+use console::{Request, request_of};
+use orders::Order;
+use reading::line::{InputLine, Reached};
+use replies::notes::Unreadable;
+
+/// What a line asks.
+pub(crate) enum Entry<'a> {
+    /// Nothing.
+    Nothing,
+    /// To read the sheet at a path.
+    Sheet(&'a str),
+    /// What a contract gains and loses in the scenarios.
+    Contract(u64),
+    /// An order of the day.
+    Order(Order),
+    /// No line that is known.
+    Unreadable(Unreadable),
+}
+
+// What a text asks.
+fn entry_in(text: &str) -> Entry<'_> {
+    match request_of(text) {
+        Request::Nothing => Entry::Nothing,
+        Request::Sheet(path) => Entry::Sheet(path),
+        Request::Contract(contract) => Entry::Contract(contract),
+        Request::Unreadable => match order_of(text) {
+            Some(order) => Entry::Order(order),
+            None => Entry::Unreadable(Unreadable::NoLine),
+        },
+    }
+}
+
+/// What a line asks.
+pub(crate) fn entry_of(reached: Reached, line: &InputLine) -> Entry<'_> {
+    if let Reached::TooLong = reached {
+        return Entry::Unreadable(Unreadable::TooLong);
+    }
+    match line.text() {
+        Some(text) => entry_in(text),
+        None => Entry::Unreadable(Unreadable::NoLine),
+    }
+}
