@@ -76,8 +76,8 @@ pub fn pay_out(book: &mut Book, holder: Holder, amount: i64) -> Result<Stub, Ref
 pub fn settle(book: &mut Book, stub: Stub) -> Result<(), Refusal>
     ensures { (m : ScenarioTable) → Answered m (ledger_in book.old) (settleCall (slip_in stub)) (answered (λ _. accepted) result) (ledger_in book.new) }
 {
-    let place = find(book.slips.as_slice(), stub).ok_or(Refusal::NoSuchSlip)?;
-    book.slips.remove(place);
+    let found = find(book.slips.as_slice(), stub).ok_or(Refusal::NoSuchSlip)?;
+    book.slips.remove(found);
     Ok(())
 }
 
