@@ -1,4 +1,9 @@
 //! What a line of the input asks.
+ghost use Rattle.std.specs.Prelude.{◌≡◌};
+ghost use Rattle.console.specs.Requests.{asked};
+ghost use Rattle.limits.specs.Entered.{entered, entered_by};
+ghost use Rattle.replies.specs.declared.notes.Unreadable.TheVariants.{NoLine};
+
 use commands::calls::order_of;
 use console::{Request, request_of};
 use orders::Order;
@@ -20,7 +25,9 @@ pub(crate) enum Entry<'a> {
 }
 
 // What a text asks.
-fn entry_in(text: &str) -> Entry<'_> {
+fn entry_in(text: &str) -> Entry<'_>
+    ensures { entered_by result ≡ entered NoLine text.now (asked text.now) }
+{
     match request_of(text) {
         Request::Nothing => Entry::Nothing,
         Request::Sheet(path) => Entry::Sheet(path),

@@ -1,6 +1,6 @@
 //! The sheets that are read before the first order.
-use crate::screen::Screen;
 use crate::asked::{Entry, entry_of};
+use crate::screen::Screen;
 use answers::{add_sheet, contract_line};
 use orders::Order;
 use reading::line::InputLine;
@@ -13,11 +13,7 @@ use std::fs;
 const MOST_READ: usize = 65_537;
 
 // Reads the start of the file at a path, as much as there is room for.
-fn read_file<'a>(
-    rt: &HostRuntime,
-    path: &str,
-    room: &'a mut [u8],
-) -> Result<&'a [u8], Unreadable> {
+fn read_file<'a>(rt: &HostRuntime, path: &str, room: &'a mut [u8]) -> Result<&'a [u8], Unreadable> {
     let mut file = fs::open(rt, path).map_err(|_| Unreadable::NoFile)?;
     let length = read_start(&mut file, room).map_err(|_| Unreadable::NoFile)?;
     Ok(&room[..length])

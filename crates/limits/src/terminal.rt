@@ -1,7 +1,7 @@
 //! The desk of a day at the screen.
-use crate::screen::Screen;
 use crate::asked::{Entry, entry_of};
 use crate::replying::{figures_shown, reply_shown, totals_shown};
+use crate::screen::Screen;
 use answers::contract_line;
 use desk::desks::Desk;
 use desk::replies::Reply;
