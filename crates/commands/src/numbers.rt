@@ -24,7 +24,7 @@ where
 pub fn whole(word: &str) -> Option<u64>
     ensures { result ≡ whole word.now }
 {
-    plain(word)
+    plain::<u64>(word)
 }
 
 /// The number that decimal digits write, before which a minus may stand; `None` for another word, and for a number
@@ -32,5 +32,5 @@ pub fn whole(word: &str) -> Option<u64>
 pub fn amount(word: &str) -> Option<i64>
     ensures { result ≡ amount word.now }
 {
-    plain(word)
+    plain::<i64>(word)
 }
