@@ -31,15 +31,10 @@ pub fn set_cash(book: &mut Book, client: u64, amount: i64) -> Result<(), Refusal
 }
 
 // Makes every settlement amount 0.
-// Kept as a loop over places, here and below: rows lend one row for change at a time, by its place, and no slice of all of them; the loop is as plain with it.
 fn clear_cash(clients: &mut Rows<Client, 128>)
     ensures { clients_in clients.new ≡ map (with_cash (pos 0)) (clients_in clients.old) }
 {
-    for place in 0..clients.len() {
-        if let Some(row) = clients.get_mut(place) {
-            row.cash = Cash::none();
-        }
-    }
+    clients.change_each(|_, row| row.cash = Cash::none());
 }
 
 /// The settlement window has passed: every settlement amount becomes 0.
@@ -58,11 +53,7 @@ pub fn pass_window(book: &mut Book) -> Result<(), Refusal>
 fn set_needs(clients: &mut Rows<Client, 128>, needs: &[i64; 128])
     ensures { clients_in clients.new ≡ opened (λ c. get_or needs.now c (pos 0)) 0 (clients_in clients.old) }
 {
-    for place in 0..clients.len() {
-        if let Some(row) = clients.get_mut(place) {
-            row.opening_need = needs[place];
-        }
-    }
+    clients.change_each(|place, row| row.opening_need = needs[place]);
 }
 
 /// Enters each client's opening need: `needs` has them by the clients' numbers.

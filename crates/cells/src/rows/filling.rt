@@ -2,6 +2,7 @@
 ghost use Rattle.std.specs.Prelude.{◌≡◌, ◌+◌, ◌-◌, ◌<◌, ◌≤◌, [], ◌∷◌, ◌++◌, length, take, drop, Ok, Err, MatchOption, slice_index_or};
 ghost use Rattle.std.specs.Borrow.{sem, follows, follows_if};
 ghost use Rattle.std.specs.Option.{ghost_name_of as name_of};
+ghost use Rattle.std.specs.Fork.{AcceptsEach, ChangesEach};
 ghost use Rattle.cells.specs.Listed.{listed};
 
 use crate::cells::Cells;
@@ -29,6 +30,17 @@ impl<T, const N: usize> Rows<T, N> {
             return None;
         }
         Some(self.row(i))
+    }
+
+    /// Lends each row to `f` for change, with its place: each is then what its call left there, and there are as many as before.
+    pub fn change_each<F: Fn(usize, &mut T)>(&mut self, f: F)
+        requires { AcceptsEach F.Fn f (listed self.old) }
+        ensures many { length (listed self.new) ≡ length (listed self.old) }
+        ensures each { ChangesEach F.Fn f (listed self.old) (listed self.new) }
+    {
+        for (place, row) in self.cells.at[..self.used].iter_mut().enumerate() {
+            f(place, row);
+        }
     }
 }
 
