@@ -6,7 +6,7 @@ use Rattle.std.proofs.lemmas.List.{length-take-le, set_past, take-set-le, take-t
 use Rattle.std.proofs.lemmas.Bool.{cases_lt}
 use Rattle.std.proofs.lemmas.List.Edits.{take-paste}
 use Rattle.cells.specs.declared.rows.Rows.{Rows}
-use Rattle.cells.specs.Lent.{with_row}
+use Rattle.cells.specs.Lent.{with_row, with_rows}
 use Rattle.cells.specs.Listed.{listed}
 
 pub length_listed : {X : Type 0} {n : ℕ} (t : Rows X n) → length (listed t) ≡ t.used
@@ -39,6 +39,6 @@ one_more {X = X} R xs ys k y l below here j d h = elim (cases_lt j k) [
       subst (λ (i : ℕ). R i (get_or xs i d) (get_or (set ys k y) i d)) e (subst (R k (get_or xs k d)) (sym (get_or-set_same ys k y d l)) (here d))
 ]
 
--- rows written over the used places are what is listed then
-pub as_listed : {X : Type 0} {n : ℕ} (P : X → Type 0) (t : Rows X n) (ys zs : List X) (i : ℕ) (d : X) → length ys ≡ length (listed t) → P (get_or ys i d) → P (get_or (take t.used (ys ++ zs)) i d)
-as_listed {X = X} P t ys zs i d e h = subst (λ (v : List X). P (get_or v i d)) (sym (take_at ys zs t.used (e ∙ length_listed t))) h
+-- what a loan of all rows leaves
+pub listed_rows : {X : Type 0} {n : ℕ} (t : Rows X n) (ws : List X) → length ws ≡ length (listed t) → listed (with_rows t ws) ≡ ws
+listed_rows t ws e = take-take t.used (length t.cells.at) (ws ++ drop (length ws) t.cells.at) (omega (arith, t.within, t.long)) ∙ take_at ws (drop (length ws) t.cells.at) t.used (e ∙ length_listed t)

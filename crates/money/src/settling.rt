@@ -34,7 +34,9 @@ pub fn set_cash(book: &mut Book, client: u64, amount: i64) -> Result<(), Refusal
 fn clear_cash(clients: &mut Rows<Client, 128>)
     ensures { clients_in clients.new ≡ map (with_cash (pos 0)) (clients_in clients.old) }
 {
-    clients.change_each(|_, row| row.cash = Cash::none());
+    for row in clients.as_mut_slice() {
+        row.cash = Cash::none();
+    }
 }
 
 /// The settlement window has passed: every settlement amount becomes 0.
@@ -53,7 +55,9 @@ pub fn pass_window(book: &mut Book) -> Result<(), Refusal>
 fn set_needs(clients: &mut Rows<Client, 128>, needs: &[i64; 128])
     ensures { clients_in clients.new ≡ opened (λ c. get_or needs.now c (pos 0)) 0 (clients_in clients.old) }
 {
-    clients.change_each(|place, row| row.opening_need = needs[place]);
+    for (place, row) in clients.as_mut_slice().iter_mut().enumerate() {
+        row.opening_need = needs[place];
+    }
 }
 
 /// Enters each client's opening need: `needs` has them by the clients' numbers.

@@ -1,8 +1,7 @@
 //! What is done with rows.
 ghost use Rattle.std.specs.Prelude.{◌≡◌, ◌+◌, ◌-◌, ◌<◌, ◌≤◌, [], ◌∷◌, ◌++◌, length, take, drop, Ok, Err, MatchOption, slice_index_or};
-ghost use Rattle.std.specs.Borrow.{sem, follows, follows_if};
+ghost use Rattle.std.specs.Borrow.{sem, follows, follows_if, Lends, Array};
 ghost use Rattle.std.specs.Option.{ghost_name_of as name_of};
-ghost use Rattle.std.specs.Fork.{AcceptsEach, ChangesEach};
 ghost use Rattle.cells.specs.Listed.{listed};
 
 use crate::cells::Cells;
@@ -10,7 +9,7 @@ use crate::rows::Rows;
 
 impl<T, const N: usize> Rows<T, N> {
     ghost use Rattle.cells.specs.contracts.rows.Rows.{the_row};
-    ghost use Rattle.cells.specs.Lent.{with_row};
+    ghost use Rattle.cells.specs.Lent.{with_row, with_rows};
 
     // The row at a place.
     fn row(&mut self, i: usize) -> &mut T
@@ -32,15 +31,13 @@ impl<T, const N: usize> Rows<T, N> {
         Some(self.row(i))
     }
 
-    /// Lends each row to `f` for change, with its place: each is then what its call left there, and there are as many as before.
-    pub fn change_each<F: Fn(usize, &mut T)>(&mut self, f: F)
-        requires { AcceptsEach F.Fn f (listed self.old) }
-        ensures many { length (listed self.new) ≡ length (listed self.old) }
-        ensures each { ChangesEach F.Fn f (listed self.old) (listed self.new) }
+    /// The rows, for change: when the loan ends, they are what was left there.
+    pub fn as_mut_slice(&mut self) -> &mut [T]
+        ensures* writes_back { sem 𝓛 (Lends (the_row T.row N.row) (Array T.row 0) self.entry result (with_rows self.old)) }
+        ensures value { result.now ≡ listed self.old }
     {
-        for (place, row) in self.cells.at[..self.used].iter_mut().enumerate() {
-            f(place, row);
-        }
+        let used = self.used;
+        self.cells.front_mut(used)
     }
 }
 
