@@ -1,1 +1,2 @@
 pub mod Rowed
+pub mod CellsMemory

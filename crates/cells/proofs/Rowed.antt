@@ -1,12 +1,12 @@
 -- Rows at the front of a longer list. Assumes nothing.
-use Rattle.std.proofs.Common.{◌≡◌, ℕ, ◌+◌, ◌-◌, ◌<◌, ◌≤◌, List, ◌++◌, length, take, drop, set, sym, ap, ◌∙◌, arith, inl, inr, length-drop}
+use Rattle.std.proofs.Common.{◌≡◌, ℕ, ◌+◌, ◌-◌, ◌<◌, ◌≤◌, List, ◌++◌, length, get_or, take, drop, set, sym, ap, ◌∙◌, subst, arith, inl, inr, length-drop}
 use lib.Seq.{take-set-lt}
 use Rattle.std.specs.List.{copy_within}
-use Rattle.std.proofs.lemmas.List.{length-take-le, set_past, take-set-le, take-take, drop-take}
+use Rattle.std.proofs.lemmas.List.{length-take-le, set_past, take-set-le, take-take, take_at, drop-take, get_or-set_same, get_or-set_other}
 use Rattle.std.proofs.lemmas.Bool.{cases_lt}
 use Rattle.std.proofs.lemmas.List.Edits.{take-paste}
 use Rattle.cells.specs.declared.rows.Rows.{Rows}
-use Rattle.cells.specs.Lent.{with_row}
+use Rattle.cells.specs.Lent.{with_row, with_rows}
 use Rattle.cells.specs.Listed.{listed}
 
 pub length_listed : {X : Type 0} {n : ℕ} (t : Rows X n) → length (listed t) ≡ t.used
@@ -29,3 +29,16 @@ moved_up {X = X} xs n i h k =
     ∙ take-paste xs i (drop (i + 1) xs) d (omega arith) (omega (arith, length-drop (i + 1) xs))
     ∙ ap (λ (v : List X). v ++ take d (drop (i + 1) xs)) (sym (take-take i n xs (omega arith)))
     ∙ ap (λ (v : List X). take i (take n xs) ++ v) (sym (ap (λ (j : ℕ). drop (i + 1) (take j xs)) e ∙ drop-take (i + 1) d xs))
+
+-- one more row was changed: what R says of the rows below k holds of row k too
+pub one_more : {X : Type 0} (R : ℕ → X → X → Type 0) (xs ys : List X) (k : ℕ) (y : X) → k < length ys → ((j : ℕ) (d : X) → j < k → R j (get_or xs j d) (get_or ys j d)) → ((d : X) → R k (get_or xs k d) y) → (j : ℕ) (d : X) → j < k + 1 → R j (get_or xs j d) (get_or (set ys k y) j d)
+one_more {X = X} R xs ys k y l below here j d h = elim (cases_lt j k) [
+  | inl p ↦ subst (R j (get_or xs j d)) (sym (get_or-set_other ys k j y d (λ e. omega arith))) (below j d p)
+  | inr p ↦
+      let e : k ≡ j = omega arith in
+      subst (λ (i : ℕ). R i (get_or xs i d) (get_or (set ys k y) i d)) e (subst (R k (get_or xs k d)) (sym (get_or-set_same ys k y d l)) (here d))
+]
+
+-- what a loan of all rows leaves
+pub listed_rows : {X : Type 0} {n : ℕ} (t : Rows X n) (ws : List X) → length ws ≡ length (listed t) → listed (with_rows t ws) ≡ ws
+listed_rows t ws e = take-take t.used (length t.cells.at) (ws ++ drop (length ws) t.cells.at) (omega (arith, t.within, t.long)) ∙ take_at ws (drop (length ws) t.cells.at) t.used (e ∙ length_listed t)

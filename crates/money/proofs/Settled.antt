@@ -1,43 +1,37 @@
--- Rows of clients that are changed one after the other, and settlement amounts. Assumes nothing.
-use Rattle.std.proofs.Common.{◌≡◌, ℕ, zero, suc, ◌+◌, ◌-◌, ◌<◌, ◌≤◌, true, false, not, List, [], ◌∷◌, ◌++◌, length, get_or, take, drop, set, ℤ, pos, neg_ℤ, nat_abs, None, sym, refl, ap, ◌∙◌, add-one, arith}
+-- Rows of clients that are all changed, and settlement amounts. Assumes nothing.
+use Rattle.std.proofs.Common.{◌≡◌, ℕ, suc, ◌+◌, ◌<◌, ◌≤◌, true, false, not, List, [], ◌∷◌, map, length, get_or, ℤ, pos, neg_ℤ, nat_abs, None, refl, ap, ◌∙◌, arith}
 use lib.Signed.{lt_z}
-use Rattle.std.proofs.lemmas.List.{get_or-append_right, get_or-drop, length-take-le}
 use Rattle.std.proofs.lemmas.Int.{ints}
 use Rattle.std.proofs.lemmas.Bool.{and_from, leb-true}
 use Rattle.figures.specs.Markets.{fair_cash}
 use Rattle.scenario.specs.Table.{ScenarioTable}
 use Rattle.rules.specs.Bounds.{most_cash}
 use Rattle.rules.specs.Ledger.{Ledger, Client}
-use Rattle.rules.specs.Causes.{cash, cause, within, opened, no_such_client}
-use Rattle.rules.proofs.Given.{length_opened}
+use Rattle.rules.specs.Causes.{cash, cause, within, opened, with_cash, no_such_client}
 use Rattle.rules.proofs.Rows.{skip}
+use Rattle.book.specs.declared.clients.Client.{Client as ClientRow}
+use Rattle.book.specs.Means.{client_in}
 
--- ---- all rows, one after the other
+-- ---- all rows, each changed alike
 
 -- a client with an opening need
 abbrev pub with_need : ℤ → Client → Client
 with_need n x = record { trader = x.trader; collateral = x.collateral; cash = x.cash; opening_need = n }
 
-one_more : (f : ℕ → ℤ) (k i : ℕ) (xs : List Client) (d : Client) → i < length xs → set (opened f k (take i xs) ++ drop i xs) i (with_need (f (k + i)) (get_or xs i d)) ≡ opened f k (take (suc i) xs) ++ drop (suc i) xs
-one_more f k i [] d h = absurd (omega arith)
-one_more f k zero (x ∷ xs) d h = let e : k + 0 ≡ k = omega arith in ap (λ (n : ℕ). with_need (f n) x ∷ xs) e
-one_more f k (suc i) (x ∷ xs) d h =
-    let e : k + suc i ≡ k + 1 + i = omega arith in
-    ap (λ (n : ℕ). with_need (f k) x ∷ set (opened f (k + 1) (take i xs) ++ drop i xs) i (with_need (f n) (get_or xs i d))) e
-    ∙ ap (λ (v : List Client). with_need (f k) x ∷ v) (one_more f (k + 1) i xs d (omega arith))
+pub all_cash : (v : ℤ) (ys xs : List ClientRow) → length ys ≡ length xs → ((i : ℕ) (d : ClientRow) → i < length xs → client_in (get_or ys i d) ≡ with_cash v (client_in (get_or xs i d))) → map client_in ys ≡ map (with_cash v) (map client_in xs)
+all_cash v [] [] e h = refl
+all_cash v [] (x ∷ xs) e h = absurd (omega arith)
+all_cash v (y ∷ ys) [] e h = absurd (omega arith)
+all_cash v (y ∷ ys) (x ∷ xs) e h = λ j. h 0 x (omega arith) j ∷ all_cash v ys xs (omega arith) (λ i d l. h (suc i) d (omega arith)) j
 
-pub opened_more : (f : ℕ → ℤ) (xs ys : List Client) (i : ℕ) (x : Client) → i < length xs → ys ≡ opened f 0 (take i xs) ++ drop i xs → x ≡ get_or ys i x → set ys i (with_need (f i) x) ≡ opened f 0 (take (i + 1) xs) ++ drop (i + 1) xs
-opened_more f xs ys i x h e q =
-    let n : length (opened f 0 (take i xs)) ≡ i = length_opened f 0 (take i xs) ∙ length-take-le i xs (omega arith) in
-    let z : i - i ≡ 0 = omega arith in
-    let is : x ≡ get_or xs i x =
-    q ∙ ap (λ (v : List Client). get_or v i x) e ∙ get_or-append_right (opened f 0 (take i xs)) (drop i xs) i i x n (omega arith)
-    ∙ ap (λ (j : ℕ). get_or (drop i xs) j x) z ∙ get_or-drop i xs 0 x ∙ ap (λ (j : ℕ). get_or xs j x) (let w : i + 0 ≡ i = omega arith in w) in
-    ap (λ (v : List Client). set v i (with_need (f i) x)) e
-    ∙ ap (λ (v : Client). set (opened f 0 (take i xs) ++ drop i xs) i (with_need (f i) v)) is
-    ∙ ap (λ (j : ℕ). set (opened f 0 (take i xs) ++ drop i xs) i (with_need (f j) (get_or xs i x))) (let w : i ≡ 0 + i = omega arith in w)
-    ∙ one_more f 0 i xs x h
-    ∙ ap (λ (j : ℕ). opened f 0 (take j xs) ++ drop j xs) (sym (add-one i))
+pub all_needs : (f : ℕ → ℤ) (k : ℕ) (ys xs : List ClientRow) → length ys ≡ length xs → ((i : ℕ) (d : ClientRow) → i < length xs → client_in (get_or ys i d) ≡ with_need (f (k + i)) (client_in (get_or xs i d))) → map client_in ys ≡ opened f k (map client_in xs)
+all_needs f k [] [] e h = refl
+all_needs f k [] (x ∷ xs) e h = absurd (omega arith)
+all_needs f k (y ∷ ys) [] e h = absurd (omega arith)
+all_needs f k (y ∷ ys) (x ∷ xs) e h =
+    let here : k + 0 ≡ k = omega arith in
+    let first : client_in y ≡ with_need (f k) (client_in x) = h 0 x (omega arith) ∙ ap (λ (n : ℕ). with_need (f n) (client_in x)) here in
+    λ j. first j ∷ all_needs f (k + 1) ys xs (omega arith) (λ i d l. let next : k + suc i ≡ k + 1 + i = omega arith in h (suc i) d (omega arith) ∙ ap (λ (n : ℕ). with_need (f n) (client_in (get_or xs i d))) next) j
 
 -- ---- settlement amounts
 

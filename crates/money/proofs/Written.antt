@@ -1,5 +1,5 @@
 -- A row that was lent and changed, by what it means. Assumes nothing.
-use Rattle.std.proofs.Common.{◌≡◌, ℕ, ◌<◌, List, map, length, get_or, set, length-set, ℤ, ◌+ℤ◌, sym, ap, ◌∙◌}
+use Rattle.std.proofs.Common.{◌≡◌, ℕ, ◌<◌, List, map, length, get_or, set, ℤ, ◌+ℤ◌, sym, ap, ◌∙◌}
 use Rattle.std.proofs.lemmas.List.{map-set, get_or-map}
 use Rattle.cells.specs.declared.rows.Rows.{Rows}
 use Rattle.cells.specs.Lent.{with_row}
@@ -42,7 +42,3 @@ pub cash_set : (t : Rows ClientRow 128) (c : ℕ) (x : ClientRow) (k : Cash) (v 
 cash_set t c x k v r p =
     let q = row_means client_in t c x no_client r in
     row_changed client_in t c record { trader = x.trader; collateral = x.collateral; cash = k; opening_need = x.opening_need } (with_cash v (get_or (clients_in t) c no_client)) (λ i. record { trader = (q i).trader; collateral = (q i).collateral; cash = p i; opening_need = (q i).opening_need })
-
--- a row that was lent leaves the number of rows
-pub length_lent : {X : Type 0} {n : ℕ} (t : Rows X n) (i : ℕ) (z : X) → length (listed (with_row t i z)) ≡ length (listed t)
-length_lent t i z = ap length (listed_lent t i z) ∙ length-set (listed t) i z

@@ -31,15 +31,11 @@ pub fn set_cash(book: &mut Book, client: u64, amount: i64) -> Result<(), Refusal
 }
 
 // Makes every settlement amount 0.
-// Kept as a loop over places, here and below. A method of `Rows` that takes a closure was proved, but it has to ask that the closure may be called, and no public function
-// here asks anything of its callers. All rows lent as a slice were proved too, with 280 lines of proof by hand. A trait for what changes a row is no plainer than the loop.
 fn clear_cash(clients: &mut Rows<Client, 128>)
     ensures { clients_in clients.new ≡ map (with_cash (pos 0)) (clients_in clients.old) }
 {
-    for place in 0..clients.len() {
-        if let Some(row) = clients.get_mut(place) {
-            row.cash = Cash::none();
-        }
+    for row in clients.as_mut_slice() {
+        row.cash = Cash::none();
     }
 }
 
@@ -59,10 +55,8 @@ pub fn pass_window(book: &mut Book) -> Result<(), Refusal>
 fn set_needs(clients: &mut Rows<Client, 128>, needs: &[i64; 128])
     ensures { clients_in clients.new ≡ opened (λ c. get_or needs.now c (pos 0)) 0 (clients_in clients.old) }
 {
-    for place in 0..clients.len() {
-        if let Some(row) = clients.get_mut(place) {
-            row.opening_need = needs[place];
-        }
+    for (place, row) in clients.as_mut_slice().iter_mut().enumerate() {
+        row.opening_need = needs[place];
     }
 }
 

@@ -1,6 +1,6 @@
 //! What is done with rows.
 ghost use Rattle.std.specs.Prelude.{◌≡◌, ◌+◌, ◌-◌, ◌<◌, ◌≤◌, [], ◌∷◌, ◌++◌, length, take, drop, Ok, Err, MatchOption, slice_index_or};
-ghost use Rattle.std.specs.Borrow.{sem, follows, follows_if};
+ghost use Rattle.std.specs.Borrow.{sem, follows, follows_if, Lends, Array};
 ghost use Rattle.std.specs.Option.{ghost_name_of as name_of};
 ghost use Rattle.cells.specs.Listed.{listed};
 
@@ -9,7 +9,7 @@ use crate::rows::Rows;
 
 impl<T, const N: usize> Rows<T, N> {
     ghost use Rattle.cells.specs.contracts.rows.Rows.{the_row};
-    ghost use Rattle.cells.specs.Lent.{with_row};
+    ghost use Rattle.cells.specs.Lent.{with_row, with_rows};
 
     // The row at a place.
     fn row(&mut self, i: usize) -> &mut T
@@ -29,6 +29,15 @@ impl<T, const N: usize> Rows<T, N> {
             return None;
         }
         Some(self.row(i))
+    }
+
+    /// The rows, for change: when the loan ends, they are what was left there.
+    pub fn as_mut_slice(&mut self) -> &mut [T]
+        ensures* writes_back { sem 𝓛 (Lends (the_row T.row N.row) (Array T.row 0) self.entry result (with_rows self.old)) }
+        ensures value { result.now ≡ listed self.old }
+    {
+        let used = self.used;
+        self.cells.front_mut(used)
     }
 }
 
