@@ -7,7 +7,7 @@ use std::alloc::AllocError;
 pub mod filling;
 
 /// Up to `N` rows, in the order in which they came. The places behind them hold anything.
-// Kept beside the kit's `ArrayVec`: that is no `Copy`, and its clone can fail, while a session tries each release on a copy of the book.
+// Kept beside the kit's `ArrayVec`: that is no `Copy`, and a session tries each release on a copy of the book.
 pub struct Rows<T, const N: usize> {
     pub(crate) cells: Cells<T, N>,
     pub(crate) used: usize,

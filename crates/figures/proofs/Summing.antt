@@ -36,7 +36,7 @@ pub added_same : (xs ys : List ℤ) (n : ℕ) (f g : ℕ → ℤ) (b : ℕ) → 
 added_same xs ys n f g b e a =
     record { more = λ s l. a.more s l ∙ ap (λ z. at xs s +ℤ z) (e s); rest = a.rest; small = a.small }
 
-zero_at : (w s : ℕ) → at (replicate w (pos 0)) s ≡ pos 0
+pub zero_at : (w s : ℕ) → at (replicate w (pos 0)) s ≡ pos 0
 zero_at w s =
     elim (cases_lt s w) [
       | inl l ↦ get_or-replicate w s (pos 0) (pos 0) l
@@ -84,13 +84,6 @@ added_front xs ys n k f b l e a =
     behind : (s : ℕ) → k ≤ s → at (ys ++ drop n xs) s ≡ at xs s
     behind s u = get_or-append_right ys (drop n xs) k s (pos 0) l u ∙ get_or-drop n xs (s - k) (pos 0) ∙ ap (at xs) (omega arith)
 
-pub at_front_zero : (w n s : ℕ) → at (take n (replicate w (pos 0))) s ≡ pos 0
-at_front_zero w n s =
-    elim (cases_lt s n) [
-      | inl l ↦ at_front (replicate w (pos 0)) n s l ∙ zero_at w s
-      | inr l ↦ get_or_past (take n (replicate w (pos 0))) s (pos 0) (omega (arith, length-take n (replicate {A = ℤ} w (pos 0))))
-    ]
-
 -- one more that is counted
 pub holds_more : (xs ys : List ℤ) (n : ℕ) (f g h : ℕ → ℤ) (b c d : ℕ) → Holds xs n f b → Added xs ys n g c → ((s : ℕ) → f s +ℤ g s ≡ h s) → b + c ≤ d → Holds ys n h d
 holds_more xs ys n f g h b c d o a e l =
@@ -104,8 +97,21 @@ pub holds_same : (xs : List ℤ) (n : ℕ) (f g : ℕ → ℤ) (b c : ℕ) → H
 holds_same xs n f g b c o e l =
     record { sums = λ s u. o.sums s u ∙ e s; rest = o.rest; small = λ s. omega (arith, o.small s) }
 
-pub front_long : (w n : ℕ) → n ≤ w → length (take n (replicate w (pos 0))) ≡ n
-front_long w n h = omega (arith, length-take n (replicate {A = ℤ} w (pos 0)), length-replicate {A = ℤ} w (pos 0))
+-- the places that hold something, alone
+pub holds_front : (xs : List ℤ) (n : ℕ) (f : ℕ → ℤ) (b : ℕ) → Holds xs n f b → Holds (take n xs) n f b
+holds_front xs n f b o =
+    record {
+      sums = λ s l. at_front xs n s l ∙ o.sums s l;
+      rest = λ s l. past s l;
+      small = λ s.
+          elim (cases_lt s n) [
+            | inl l ↦ rw (at_front xs n s l) (o.small s)
+            | inr l ↦ rw (past s l) (omega arith)
+          ];
+    }
+  where
+    past : (s : ℕ) → n ≤ s → at (take n xs) s ≡ pos 0
+    past s l = get_or_past (take n xs) s (pos 0) (omega (arith, length-take n xs))
 
 -- the sum of the first of some sums
 pub firsts_small : (xs : List ℤ) (b n : ℕ) → ((k : ℕ) → nat_abs (at xs k) ≤ b) → nat_abs (total (λ x. x) (take n xs)) ≤ b * length xs

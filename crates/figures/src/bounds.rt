@@ -13,7 +13,7 @@ pub const MOST_PRICE: u32 = 100_000;
 pub const MOST_POSITIONS: usize = 1024;
 
 /// The most subportfolios of a model.
-pub const MOST_SUBPORTFOLIOS: usize = 8;
+pub const MOST_SUBPORTFOLIOS: usize = scenario::MOST_SUBPORTFOLIOS as usize;
 
 /// The most scenarios of a subportfolio.
 pub(crate) const MOST_SCENARIOS: usize = 64;

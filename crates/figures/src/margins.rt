@@ -10,10 +10,10 @@ use crate::bounds::MOST_SCENARIOS;
 use crate::counting::Together;
 use crate::position::Position;
 use crate::positions::Positions;
-use crate::rows::{add_losses, greatest_of};
+use crate::rows::{Row, add_losses, greatest_of};
 use scenario::ScenarioModel;
 
-// Kept as functions of a model, here and below: a margin needs no market price, which a `Market` has.
+// Kept as functions of a model, here and below, and so are `moves` and `add_losses`: a margin needs no market price, which a `Market` has.
 /// Whether a position lies in subportfolio `k`.
 pub(crate) fn lies_in<M: ScenarioModel>(model: &M, k: u8, position: &Position) -> bool
     ensures { result ≡ lies_in (M.ScenarioModel.table model.now) k (position_of position.now) }
@@ -24,19 +24,19 @@ pub(crate) fn lies_in<M: ScenarioModel>(model: &M, k: u8, position: &Position) -
 }
 
 /// Counts one more position, where it lies in subportfolio `k`. Its place is asked once.
-fn count_in<M: ScenarioModel>(row: &mut [i64], model: &M, position: &Position, k: u8)
-    requires { (length row.old ≤ 64) × (((s : ℕ) → unsigned_abs (at row.old s) ≤ 1000000000000000000)) }
-    ensures { Added row.old row.new (length row.old) (λ s. loses_in (M.ScenarioModel.table model.now) (λ c. 0) lost_together k s (position_of position.now)) 1000000000000 }
+fn count_in<M: ScenarioModel>(row: &mut Row, model: &M, position: &Position, k: u8)
+    requires { (s : ℕ) → unsigned_abs (at row.old s) ≤ 1000000000000000000 }
+    ensures { Added row.old row.new ((M.ScenarioModel.table model.now).scenarios k) (λ s. loses_in (M.ScenarioModel.table model.now) (λ c. 0) lost_together k s (position_of position.now)) 1000000000000 }
 {
     if lies_in(model, k, position) {
-        add_losses::<M, Together>(row, model, position, 0);
+        add_losses::<M, Together>(row, model, k, position, 0);
     }
 }
 
 /// Counts what positions lose in each scenario of subportfolio `k`, in a row that holds nothing yet.
-fn count_losses<M: ScenarioModel>(row: &mut [i64], model: &M, positions: Positions, k: u8)
-    requires { (length row.old ≤ 64) × ((s : ℕ) → at row.old s ≡ pos 0) }
-    ensures { Holds row.new (length row.old) (losses_in (M.ScenarioModel.table model.now) (λ c. 0) lost_together (positions_of positions.entry.all.now) k) (1024 * 1000000000000) }
+fn count_losses<M: ScenarioModel>(row: &mut Row, model: &M, positions: Positions, k: u8)
+    requires { (s : ℕ) → at row.old s ≡ pos 0 }
+    ensures { Holds row.new ((M.ScenarioModel.table model.now).scenarios k) (losses_in (M.ScenarioModel.table model.now) (λ c. 0) lost_together (positions_of positions.entry.all.now) k) (1024 * 1000000000000) }
 {
     for position in positions.all {
         count_in(row, model, position, k);
@@ -48,11 +48,9 @@ fn margin_of<M: ScenarioModel>(model: &M, positions: Positions, k: u8) -> i64
     ensures value { result ≡ margin (M.ScenarioModel.table model.now) (positions_of positions.entry.all.now) k }
     ensures small { unsigned_abs result ≤ 1024 * 1000000000000 }
 {
-    let scenarios = model.scenarios(k) as usize;
-    let mut room = [0; MOST_SCENARIOS];
-    let row = &mut room[..scenarios];
-    count_losses(row, model, positions, k);
-    greatest_of(row)
+    let mut row = [0; MOST_SCENARIOS];
+    count_losses(&mut row, model, positions, k);
+    greatest_of(&row[..usize::from(model.scenarios(k))])
 }
 
 /// The margin of positions in subportfolio `k`: the most that those which lie there lose together in one of its scenarios. It is not below 0, since nothing moves in scenario 0. `None` where there are more than 1,024 positions.

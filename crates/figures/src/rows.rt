@@ -14,20 +14,24 @@ use scenario::ScenarioModel;
 /// Room for a sum for each scenario of a subportfolio.
 pub(crate) type Row = [i64; MOST_SCENARIOS];
 
-// Kept as premises: the sums' bound here, in `count_in` and in a market's `count` and `add_losses`, since a row is lent out of a larger table
-// and its sums are small only while they are added up; the mark's bound here, in `Counting::lost` and in a market's `add_losses`, since a
-// type with it would be made in `gained` and at each mark of 0, and opened again wherever a mark is summed or given out.
-/// Adds what a position loses in each scenario to its sum in the row.
+// Kept as premises: the sums' bound here, in `count_in` and in a market's `count`, since a row is lent out of a larger table and its sums
+// are small only while they are added up; the mark's bound here and in `Counting::lost`, since a type with it would be made in `gained`
+// and at each mark of 0, and opened again wherever a mark is summed or given out.
+// Kept `as`, since `enumerate` counts as usize: `(0..scenarios).zip(row.iter_mut())` was tried, and what such a loop leaves in the row
+// stayed open.
+/// Adds what a position loses in each scenario of subportfolio `k` to its sum in the row.
 pub(crate) fn add_losses<M: ScenarioModel, C: Counting>(
-    row: &mut [i64],
+    row: &mut Row,
     model: &M,
+    k: u8,
     position: &Position,
     mark: i64,
 )
-    requires { (length row.old ≤ 64) × ((unsigned_abs mark ≤ 10000000000000) × (((s : ℕ) → unsigned_abs (at row.old s) ≤ 1000000000000000000))) }
-    ensures { Added row.old row.new (length row.old) (λ s. C.lost mark (moves (M.ScenarioModel.table model.now) s (position_of position.now))) C.most }
+    requires { (unsigned_abs mark ≤ 10000000000000) × ((s : ℕ) → unsigned_abs (at row.old s) ≤ 1000000000000000000) }
+    ensures { Added row.old row.new ((M.ScenarioModel.table model.now).scenarios k) (λ s. C.lost mark (moves (M.ScenarioModel.table model.now) s (position_of position.now))) C.most }
 {
-    for (scenario, sum) in row.iter_mut().enumerate() {
+    let front = &mut row[..usize::from(model.scenarios(k))];
+    for (scenario, sum) in front.iter_mut().enumerate() {
         *sum += C::lost(mark, moves(model, position, scenario as u8));
     }
 }
@@ -44,5 +48,5 @@ pub(crate) fn greatest_among(row: &Row, scenarios: u8) -> i64
     requires { (1 ≤ scenarios) × (scenarios ≤ 64) }
     ensures { result ≡ greatest_below scenarios (at row.now) }
 {
-    greatest_of(&row[..scenarios as usize])
+    greatest_of(&row[..usize::from(scenarios)])
 }

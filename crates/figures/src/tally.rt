@@ -1,7 +1,7 @@
 //! What positions have gained, and what they lose in each scenario of each subportfolio: a row of sums for each subportfolio.
-ghost use Rattle.std.specs.Prelude.{◌≡◌, ℕ, ◌*◌, ◌≤◌, true, [], map, length, slice_index_or, unsigned_abs};
+ghost use Rattle.std.specs.Prelude.{◌≡◌, ℕ, ◌*◌, ◌≤◌, true, [], map, slice_index_or, unsigned_abs};
 ghost use Rattle.cells.specs.Listed.{listed};
-ghost use Rattle.figures.specs.Figures.{mark, moves};
+ghost use Rattle.figures.specs.Figures.{mark};
 ghost use Rattle.figures.specs.Sums.{total, greatest_below, those_below};
 ghost use Rattle.figures.specs.Losses.{loses_in, losses_in, at, Added, Holds};
 ghost use Rattle.figures.specs.Markets.{market};
@@ -25,15 +25,6 @@ pub(crate) struct Tally {
 }
 
 impl<'a, M: ScenarioModel> Market<'a, M> {
-    /// Adds what a position with this mark loses in each scenario of subportfolio `k` to its sum in that subportfolio's row.
-    fn add_losses<C: Counting>(&self, row: &mut [i64], k: u8, position: &Position, mark: i64)
-        requires { (length row.old ≡ 64) × ((unsigned_abs mark ≤ 10000000000000) × (((s : ℕ) → unsigned_abs (at row.old s) ≤ 1000000000000000000))) }
-        ensures { Added row.old row.new ((M.ScenarioModel.table self.now.model.now).scenarios k) (λ s. C.lost mark (moves (M.ScenarioModel.table self.now.model.now) s (position_of position.now))) C.most }
-    {
-        let scenarios = self.model.scenarios(k) as usize;
-        add_losses::<M, C>(&mut row[..scenarios], self.model, position, mark);
-    }
-
     /// Counts one more position, whose place in the model is asked once, and gives its mark.
     fn count<C: Counting>(&self, rows: &mut [Row; MOST_SUBPORTFOLIOS], position: &Position) -> i64
         requires { (k s : ℕ) → unsigned_abs (at (slice_index_or rows.old k []) s) ≤ 1000000000000000000 }
@@ -50,7 +41,7 @@ impl<'a, M: ScenarioModel> Market<'a, M> {
             multiplier,
             self.prices.ticks_of(position.contract),
         );
-        self.add_losses::<C>(&mut rows[k as usize], k, position, mark);
+        add_losses::<M, C>(&mut rows[usize::from(k)], self.model, k, position, mark);
         mark
     }
 
@@ -76,10 +67,9 @@ pub(crate) fn greatest_by_row<M: ScenarioModel>(
 ) -> Rows<i64, 8>
     ensures { listed result ≡ map (λ k. greatest_below ((M.ScenarioModel.table model.now).scenarios k) (at (slice_index_or rows.now k []))) (those_below (M.ScenarioModel.table model.now).subportfolios (λ _. true)) }
 {
-    // Kept by number: the model is asked by it too, and `enumerate` would count the rows as usize, cast back to u8 for that question.
     let mut greatest = Rows::new();
-    for k in 0..model.subportfolios() {
-        let _ = greatest.push(greatest_among(&rows[k as usize], model.scenarios(k)));
+    for (k, row) in (0..model.subportfolios()).zip(rows) {
+        let _ = greatest.push(greatest_among(row, model.scenarios(k)));
     }
     greatest
 }

@@ -31,9 +31,7 @@ pub fn used(backing: u64, risk: u64) -> Option<u128>
 pub fn utilisation(backing: i64, risk: i64) -> Result<Option<u128>, BelowZero>
     ensures { used result ≡ utilisation_if backing risk }
 {
-    if backing < 0 || risk < 0 {
-        Err(BelowZero)
-    } else {
-        Ok(used(backing as u64, risk as u64))
-    }
+    let backing = u64::try_from(backing).or(Err(BelowZero))?;
+    let risk = u64::try_from(risk).or(Err(BelowZero))?;
+    Ok(used(backing, risk))
 }

@@ -55,7 +55,7 @@ impl Book {
         ensures value { result ≡ length (ledger_in self.now).clients }
         ensures few { result ≤ 128 }
     {
-        self.clients.len() as u8
+        u8::try_from(self.clients.len()).unwrap()
     }
 
     /// The cells of the trades, none of which is empty.

@@ -28,7 +28,7 @@ impl TradeTable {
     pub fn new() -> TradeTable
         ensures { cells_in result ≡ [] }
     {
-        // Kept as a repeated cell, where the other tables begin with a default: the cells of trades begin as empty ones.
+        // Kept as a repeated cell: the rules of the project have the table of 1,024 trade cells begin as one empty cell, repeated.
         TradeTable {
             rows: Rows::of([TradeCell::Empty; MOST_TRADES]),
         }

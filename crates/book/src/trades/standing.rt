@@ -27,7 +27,8 @@ pub enum TradeCell {
     Carried(Trade, u8),
 }
 
-// Kept as what is asked, beside the state: a trade matches the two together.
+// Kept as what is asked, beside the state: the rules of the project have a trade's own method match its state together with what is asked,
+// that it goes to a client or is taken from it.
 /// What can be asked of a trade.
 #[derive(Clone, Copy, Debug, PartialEq, Eq)]
 pub enum Change {

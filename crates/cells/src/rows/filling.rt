@@ -11,6 +11,32 @@ impl<T, const N: usize> Rows<T, N> {
     ghost use Rattle.cells.specs.contracts.rows.Rows.{the_row};
     ghost use Rattle.cells.specs.Lent.{with_row, with_rows};
 
+    /// No row yet, in the room of `at`.
+    pub fn of(at: [T; N]) -> Rows<T, N>
+        ensures { listed result ≡ [] }
+    {
+        Rows {
+            cells: Cells { at },
+            used: 0,
+        }
+    }
+
+    /// How many rows there are.
+    pub fn len(&self) -> usize
+        ensures value { result ≡ length (listed self.now) }
+        ensures few { result ≤ N }
+    {
+        self.used
+    }
+
+    /// The rows.
+    pub fn as_slice(&self) -> &[T]
+        ensures value { result.now ≡ listed self.now }
+        ensures few { length (listed self.now) ≤ N }
+    {
+        &self.cells.at[..self.used]
+    }
+
     // The row at a place.
     fn row(&mut self, i: usize) -> &mut T
         requires { i < length (listed self.old) }
@@ -41,49 +67,7 @@ impl<T, const N: usize> Rows<T, N> {
     }
 }
 
-impl<T: Copy, const N: usize> Rows<T, N> {
-    /// No row yet, in the room of `at`.
-    pub fn of(at: [T; N]) -> Rows<T, N>
-        ensures { listed result ≡ [] }
-    {
-        Rows {
-            cells: Cells { at },
-            used: 0,
-        }
-    }
-
-    /// No row yet.
-    pub fn new() -> Rows<T, N>
-    where
-        T: Default,
-        ensures { listed result ≡ [] }
-    {
-        Rows::of([T::default(); N])
-    }
-
-    /// How many rows there are.
-    pub fn len(&self) -> usize
-        ensures value { result ≡ length (listed self.now) }
-        ensures few { result ≤ N }
-    {
-        self.used
-    }
-
-    /// The rows.
-    pub fn as_slice(&self) -> &[T]
-        ensures value { result.now ≡ listed self.now }
-        ensures few { length (listed self.now) ≤ N }
-    {
-        &self.cells.at[..self.used]
-    }
-
-    /// The row at a place, `None` past the last.
-    pub fn get(&self, i: usize) -> Option<T>
-        ensures { MatchOption result (length (listed self.now) ≤ i) (λ x. (i < length (listed self.now)) × (x ≡ slice_index_or (listed self.now) i x)) }
-    {
-        self.as_slice().get(i).copied()
-    }
-
+impl<T: Drop, const N: usize> Rows<T, N> {
     /// A row more, behind the others. It comes back, with nothing changed, where all `N` places are filled.
     pub fn push(&mut self, x: T) -> Result<(), T>
         ensures room { length (listed self.old) < N → (result ≡ Ok tt) × (listed self.new ≡ listed self.old ++ x ∷ []) }
@@ -95,6 +79,24 @@ impl<T: Copy, const N: usize> Rows<T, N> {
         self.cells.at[self.used] = x;
         self.used += 1;
         Ok(())
+    }
+}
+
+impl<T: Copy, const N: usize> Rows<T, N> {
+    /// No row yet.
+    pub fn new() -> Rows<T, N>
+    where
+        T: Default,
+        ensures { listed result ≡ [] }
+    {
+        Rows::of([T::default(); N])
+    }
+
+    /// The row at a place, `None` past the last.
+    pub fn get(&self, i: usize) -> Option<T>
+        ensures { MatchOption result (length (listed self.now) ≤ i) (λ x. (i < length (listed self.now)) × (x ≡ slice_index_or (listed self.now) i x)) }
+    {
+        self.as_slice().get(i).copied()
     }
 
     /// Takes the row at a place away: those behind it move up. Nothing changes past the last.

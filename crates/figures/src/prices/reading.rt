@@ -24,7 +24,7 @@ impl Prices {
         if !(1..=MOST_PRICE).contains(&price) {
             return Err(UnfairPrice);
         }
-        let place = contract as usize;
+        let place = usize::from(contract);
         self.ticks[place] = Some(price);
         Ok(())
     }
@@ -33,7 +33,7 @@ impl Prices {
     pub fn get(&self, contract: u8) -> Option<u32>
         ensures { result ≡ price_at self.now.ticks contract }
     {
-        self.ticks[contract as usize]
+        self.ticks[usize::from(contract)]
     }
 
     /// Whether the contract has a price.

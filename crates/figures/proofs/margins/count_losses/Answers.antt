@@ -1,5 +1,5 @@
-use Rattle.std.proofs.Common.{ℕ, ◌*◌, length, refl, subst, arith}
-use Rattle.figures.specs.Losses.{lost_together, loses_in, Added}
+use Rattle.std.proofs.Common.{ℕ, ◌*◌, refl, arith}
+use Rattle.figures.specs.Losses.{lost_together, loses_in}
 use Rattle.figures.specs.Positions.{position_of}
 use Rattle.figures.proofs.Adding.{total_next}
 use Rattle.figures.proofs.Sizes.{most_more}
@@ -14,10 +14,7 @@ loop-position-preserved g c =
     let i = l.position-index in
     let x = c.position-item.result in
     let k = c.args.k in
-    let n = length c.args.row.now in
-    let one : ℕ → _ = λ s. loses_in m (λ _. 0) lost_together k s (position_of x) in
-    let counted : Added l.row c.count_in.new.row n one 1000000000000 = subst (λ (j : ℕ). Added l.row c.count_in.new.row j one 1000000000000) l.invariant.0 c.count_in.ensures in (
+    let one : ℕ → _ = λ s. loses_in m (λ _. 0) lost_together k s (position_of x) in (
       omega arith,
-      omega arith,
-      holds_more l.row _ n _ one _ (1000000000000 * i) 1000000000000 _ l.invariant.2 counted (λ s. total_next position_of (loses_in m (λ _. 0) lost_together k s) xs i x _ _ c.loop-position-test.true c.position-item.is refl refl) (most_more 1000000000000 i),
+      holds_more l.row _ (m.scenarios k) _ one _ (1000000000000 * i) 1000000000000 _ l.invariant.1 c.count_in.ensures (λ s. total_next position_of (loses_in m (λ _. 0) lost_together k s) xs i x _ _ c.loop-position-test.true c.position-item.is refl refl) (most_more 1000000000000 i),
     )

@@ -5,4 +5,4 @@ use Rattle.figures.proofs.rows.add_losses.Given as goal
 
 abbrev pub invariant-loop-scenario : goal.invariant-loop-scenario
 invariant-loop-scenario g l =
-    Added l.initial.row l.row l.scenario (λ s. g.C.Counting.lost l.mark (moves (g.M.ScenarioModel.table l.model) s (position_of l.position))) g.C.Counting.most
+    Added l.initial.front l.front l.scenario (λ s. g.C.Counting.lost l.mark (moves (g.M.ScenarioModel.table l.model) s (position_of l.position))) g.C.Counting.most

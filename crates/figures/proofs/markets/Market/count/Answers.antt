@@ -1,5 +1,6 @@
-use Rattle.std.proofs.Common.{◌≡◌, length, sym, arith, w64, to_z, of_z, rules}
-use Rattle.figures.specs.Figures.{mark}
+use Rattle.std.proofs.Common.{◌≡◌, ℕ, [], length, get_or, sym, subst, arith, w64, to_z, of_z, rules}
+use Rattle.figures.specs.Figures.{mark, moves}
+use Rattle.figures.specs.Losses.{Added}
 use Rattle.figures.specs.Markets.{market}
 use Rattle.figures.specs.Positions.{position_of}
 use Rattle.figures.proofs.Placing.{added_row, added_no_row}
@@ -23,4 +24,5 @@ returns-clause-losses g c =
     let placed = law.placed_within c.args.position.now.contract k c.in-Some.multiplier (sym c.in-Some.ensures) in
     let long : length rows ≡ 8 = search rules in
     let v : z ≡ mark m μ t = search rules in
-    added_row m t μ g.C.Counting.lost rows k c.in-Some.multiplier c.add_losses.new.row z g.C.Counting.most (sym c.in-Some.ensures) (omega (arith, law.few_subportfolios, placed, long)) v c.add_losses.ensures
+    let counted = subst (λ (j : ℕ). Added (get_or rows j []) c.add_losses.new.row (m.scenarios k) (λ s. g.C.Counting.lost z (moves m s t)) g.C.Counting.most) c.from.ensures c.add_losses.ensures in
+    rw c.from.ensures (added_row m t μ g.C.Counting.lost rows k c.in-Some.multiplier c.add_losses.new.row z g.C.Counting.most (sym c.in-Some.ensures) (omega (arith, law.few_subportfolios, placed, long)) v counted)
