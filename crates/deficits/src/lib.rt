@@ -102,6 +102,7 @@ fn total_of(deficits: &[Deficit]) -> i64
 /// Fills `cells` with the greatest of `deficits`, greatest first and of equal amounts the lower client first, and answers how many cells are
 /// filled and what these deficits sum to. The other cells keep what they hold.
 /// `None`, with all cells as they are, where there are more than 128 deficits or an amount is not 0 to `MOST_AMOUNT`.
+// Kept as a count beside lent cells: a keeper works in memory that its caller lends, and allocates none.
 pub fn pick_greatest(deficits: &[Deficit], cells: &mut [Deficit]) -> Option<Picked>
     ensures value { result ≡ if_summable deficits.now (picked_of (length cells.old) deficits.now) }
     ensures held { MatchOption result (cells.new ≡ cells.old) (λ p. Keeping ahead cells.old deficits.now p.count cells.new) }

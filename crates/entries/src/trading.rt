@@ -53,9 +53,8 @@ pub fn enter_carry(
 {
     let contract = placed.ok_or(Refusal::Unknown)?;
     let row = book.client(client).ok_or(Refusal::Unknown)?;
-    // Kept `as`, here and in `specify`: a client that was found has a number below 128, so that `try_from` would add a refusal that no
-    // call can meet, and its `ok()` would read as a trade with no client.
-    enter_lot(book, contract, lot, row.trader, Some(client as u8))
+    let number = u8::try_from(client).or(Err(Refusal::Unknown))?;
+    enter_lot(book, contract, lot, row.trader, Some(number))
 }
 
 /// Gives a trade to a client of its trader.
@@ -64,14 +63,14 @@ pub fn specify(book: &mut Book, trade: u64, client: u64) -> Result<(), Refusal>
 {
     let cell = book.cell(trade).ok_or(Refusal::Unknown)?;
     let row = book.client(client).ok_or(Refusal::Unknown)?;
+    let number = u8::try_from(client).or(Err(Refusal::Unknown))?;
     let TradeCell::Unspecified(found) = cell else {
         return Err(Refusal::WrongState);
     };
     if row.trader != found.trader {
         return Err(Refusal::OtherTrader);
     }
-    book.trades
-        .change(trade as usize, Change::Specify(client as u8))
+    book.trades.change(trade as usize, Change::Specify(number))
 }
 
 /// Takes a trade from its client again, whatever that does to its trader's limit, and answers its trader.

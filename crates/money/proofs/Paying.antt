@@ -149,8 +149,5 @@ pub capped_at : (ts ts' : List Trader) (cs cs' : List Client) (ss ss' : List Sli
 capped_at ts ts' cs cs' ss ss' p q r f h = subst (λ (z : ℤ). z ≤ℤ pos most_amount) (λ i. collateral_in (sym p i) (sym q i) h +ℤ amounts_of (sym r i) h) (f h)
 
 -- a slip that was found among the rows
-pub found_standing : (s : Slip) (ys xs : List Stub) → ys ≡ xs → is_standing s (map slip_in ys) ≡ true → is_standing s (map slip_in xs) ≡ true
-found_standing s ys xs e h = ap (λ (v : List Stub). is_standing s (map slip_in v)) (sym e) ∙ h
-
-pub found_struck : (s : Slip) (ys xs zs : List Stub) (k : ℕ) → ys ≡ xs → struck s (map slip_in ys) ≡ map slip_in (take k ys ++ drop (k + 1) ys) → zs ≡ take k xs ++ drop (k + 1) xs → map slip_in zs ≡ struck s (map slip_in xs)
-found_struck s ys xs zs k e h q = ap (map slip_in) q ∙ ap (λ (v : List Stub). map slip_in (take k v ++ drop (k + 1) v)) (sym e) ∙ sym h ∙ ap (λ (v : List Stub). struck s (map slip_in v)) e
+pub found_struck : (s : Slip) (xs zs : List Stub) (k : ℕ) → struck s (map slip_in xs) ≡ map slip_in (take k xs ++ drop (k + 1) xs) → zs ≡ take k xs ++ drop (k + 1) xs → map slip_in zs ≡ struck s (map slip_in xs)
+found_struck s xs zs k h q = ap (map slip_in) q ∙ sym h

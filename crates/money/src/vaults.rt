@@ -27,7 +27,7 @@ pub fn deposit(book: &mut Book, holder: Holder, amount: i64) -> Result<(), Refus
     let held = collateral(book, holder).ok_or(Refusal::Unknown)?;
     let more = fair_amount(amount).ok_or(Refusal::OutOfRange)?;
     let fund = held.checked_add(more).ok_or(Refusal::TooMuchCollateral)?;
-    if fund.amount + standing(book.slips.as_slice(), holder) > MOST_AMOUNT {
+    if fund.amount + standing(&book.slips, holder) > MOST_AMOUNT {
         return Err(Refusal::TooMuchCollateral);
     }
     set_collateral(&mut book.traders, &mut book.clients, holder, fund);
@@ -76,7 +76,7 @@ pub fn pay_out(book: &mut Book, holder: Holder, amount: i64) -> Result<Stub, Ref
 pub fn settle(book: &mut Book, stub: Stub) -> Result<(), Refusal>
     ensures { (m : ScenarioTable) → Answered m (ledger_in book.old) (settleCall (slip_in stub)) (answered (λ _. accepted) result) (ledger_in book.new) }
 {
-    let found = find(book.slips.as_slice(), stub).ok_or(Refusal::NoSuchSlip)?;
+    let found = find(&book.slips, stub).ok_or(Refusal::NoSuchSlip)?;
     book.slips.remove(found);
     Ok(())
 }
@@ -95,7 +95,7 @@ fn restored(book: &Book, stub: Stub) -> Option<Fund>
 pub fn put_back(book: &mut Book, stub: Stub) -> Result<(), Refusal>
     ensures { (m : ScenarioTable) → Answered m (ledger_in book.old) (putBackCall (slip_in stub)) (answered (λ _. accepted) result) (ledger_in book.new) }
 {
-    let place = find(book.slips.as_slice(), stub).ok_or(Refusal::NoSuchSlip)?;
+    let place = find(&book.slips, stub).ok_or(Refusal::NoSuchSlip)?;
     let fund = restored(book, stub).ok_or(Refusal::NoSuchSlip)?;
     set_collateral(&mut book.traders, &mut book.clients, stub.holder, fund);
     book.slips.remove(place);

@@ -35,11 +35,7 @@ pub(crate) fn specified_risk(clients: &Rows<ClientFigures, 128>, defaults: u8) -
     ensures small { unsigned_abs result ≤ 6400000000000000000 }
 {
     let deficits = deficits_of(clients);
-    match sum_of_greatest(deficits.as_slice(), defaults as usize) {
-        Some(sum) => sum,
-        // Kept: these amounts are within the bounds of a sum by the type of a client's figures; a `Deficit` is public and takes any amount, and may not ask more.
-        None => unreachable(),
-    }
+    sum_of_greatest(deficits.as_slice(), usize::from(defaults)).unwrap()
 }
 
 impl<'a, M: ScenarioModel> Day<'a, M> {

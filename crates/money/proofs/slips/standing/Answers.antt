@@ -5,6 +5,7 @@ use Rattle.std.proofs.lemmas.Bool.{cond_both}
 use Rattle.std.proofs.lemmas.List.{length-map}
 use Rattle.std.proofs.lemmas.Iterator.{YieldsList-from_slice, YieldsList-from_map}
 use Rattle.std.proofs.lemmas.Iterator.Adapters.{total_from_yields_List}
+use Rattle.cells.specs.Listed.{listed}
 use Rattle.scenario.proofs.SignedSums.{sum_fits, small_fits}
 use Rattle.orders.specs.Meant.{holder_of}
 use Rattle.rules.specs.Causes.{amounts_of}
@@ -39,18 +40,18 @@ module _ (h : Holder) where
 
 pub sum-requires-clause-fits : goal.sum-requires-clause-fits
 sum-requires-clause-fits c =
-    let xs = c.args.slips.now in
+    let xs = listed c.args.slips.now in
     let h = holder_of c.args.holder in
     sum_fits (map (part_in h) xs)
     (YieldsList-from_map _ (part_in h) (YieldsList-from_slice xs cc) c.map.ensures.closure (λ x r q k. search rules))
-    (small_fits 1000000000000000 (map (part_in h) xs) (parts_small h xs) (omega (arith, length-map xs (part_in h), c.requires)))
+    (small_fits 1000000000000000 (map (part_in h) xs) (parts_small h xs) (omega (arith, length-map xs (part_in h), c.as_slice.ensures.few)))
 
 pub returns : goal.returns
 returns c =
-    let xs = c.args.slips.now in
+    let xs = listed c.args.slips.now in
     let h = holder_of c.args.holder in
     let bits = to_z-of_z w64 c.sum.result (record { sfits = c.sum.type_inv }) in
     let folded : c.sum.result ≡ fold ◌+ℤ◌ (pos 0) (map (part_in h) xs) =
     total_from_yields_List ◌+ℤ◌ (pos 0) c.sum.result c.sum.ensures.ran (YieldsList-from_map _ (part_in h) (YieldsList-from_slice xs cc) c.map.ensures.closure (λ x r q k. search rules)) in
     let is : c.sum.result ≡ amounts_of (map slip_in xs) h = omega (arith, ints, folded, amounts_folded h xs (pos 0)) in
-    record { value = bits ∙ is; small = rw bits (omega (arith, ints, is, amounts_small h xs, c.requires)) }
+    record { value = bits ∙ is; small = rw bits (omega (arith, ints, is, amounts_small h xs, c.as_slice.ensures.few)) }

@@ -1,11 +1,11 @@
-use Rattle.std.proofs.Common.{◌≡◌, true, false, List, map, ℤ, pos, ◌+ℤ◌, ◌≤ℤ◌, ◌≤◌, nat_abs, Bool, ℕ, Some, None, Ok, Err, Option, Result, subst, sym, refl, ap, ◌∙◌, arith, w64, to_z, of_z}
+use Rattle.std.proofs.Common.{◌≡◌, true, false, ℤ, pos, ◌+ℤ◌, ◌≤ℤ◌, ◌≤◌, nat_abs, Bool, ℕ, Some, None, Ok, Err, Option, Result, subst, sym, refl, ap, ◌∙◌, arith, w64, to_z, of_z}
 use lib.Signed.{lt_z}
 use Rattle.std.proofs.lemmas.Int.{ints, to_z-of_z}
 use Rattle.scenario.specs.Table.{ScenarioTable}
 use Rattle.orders.specs.Meant.{holder_of}
 use Rattle.rules.specs.Answers.{Answered, accepted}
 use Rattle.rules.specs.Bounds.{most_amount}
-use Rattle.rules.specs.Causes.{deposit, cause, is_amount, slips_of, amounts_of, no_such_holder}
+use Rattle.rules.specs.Causes.{deposit, cause, is_amount, slips_of, no_such_holder}
 use Rattle.rules.specs.Ledger.{Ledger, Holder, collateral_of}
 use Rattle.rules.proofs.Answered.{accepts, refuses}
 use Rattle.rules.proofs.Funds.{slips_moved}
@@ -17,10 +17,8 @@ use Rattle.refusals.specs.declared.Refusal.TheVariants.{TooMuchCollateral}
 use Rattle.figures.proofs.Sizes.{kept64}
 use Rattle.orders.specs.Replied.{answered}
 use Rattle.book.specs.declared.funds.Fund.{Fund}
-use Rattle.book.specs.declared.stubs.Stub.{Stub}
 use Rattle.book.specs.Funded.{meant_fund}
 use Rattle.book.specs.Ledgers.{ledger_in}
-use Rattle.book.specs.Means.{slip_in}
 use Rattle.book.proofs.Facts.{capped_after, funded_in}
 use Rattle.book.proofs.Readings.{read_at}
 use Rattle.money.proofs.Paying.{no_contracts, other_money, moved_is, deposit_free, deposit_over, some_fund, no_fund}
@@ -67,7 +65,7 @@ over u x a s e n h = grind (arith, ints)
 module _ (c : After-standing) where
   -- what stands of the holder's slips
   stands : c.standing.result ≡ slips_of (ledger_in c.args.book.now) (holder_of c.args.holder)
-  stands = c.standing.ensures.value ∙ ap (λ (v : List Stub). amounts_of (map slip_in v) (holder_of c.args.holder)) c.as_slice.ensures.value
+  stands = c.standing.ensures.value
 
   -- what the holder would have
   fund_is : c.in_ok-fund.fund.amount ≡ c.in_ok-held.held.amount +ℤ c.in_ok-more.more.amount

@@ -6,7 +6,7 @@ use Rattle.book.specs.Ledgers.{ledger_in}
 use Rattle.book.specs.Means.{slip_in}
 use Rattle.book.proofs.Facts.{capped_after}
 use Rattle.book.proofs.Readings.{read_at}
-use Rattle.money.proofs.Paying.{no_contracts, found_standing, found_struck}
+use Rattle.money.proofs.Paying.{no_contracts, found_struck}
 use Rattle.money.proofs.vaults.settle.Goals as goal
 
 pub invariant_of-book : goal.invariant_of-book
@@ -14,5 +14,4 @@ invariant_of-book c =
     let b = c.args.book.now in
     let s = slip_in c.args.stub in
     let f = read_at _ _ c.find.result c.in_ok-found.found c.find.ensures c.in_ok-found.ensures.ok_part in
-    let e = c.as_slice.ensures.value in
-    record { capped = capped_after no_contracts b (settle s) (settled no_contracts (ledger_in b) s (found_standing s _ (listed b.slips) e f.1)) _ _ _ refl refl (found_struck s _ (listed b.slips) (listed c.remove.new.self) c.in_ok-found.found e f.2 c.remove.ensures) }
+    record { capped = capped_after no_contracts b (settle s) (settled no_contracts (ledger_in b) s f.1) _ _ _ refl refl (found_struck s (listed b.slips) (listed c.remove.new.self) c.in_ok-found.found f.2 c.remove.ensures) }
