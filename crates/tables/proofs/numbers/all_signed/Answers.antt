@@ -1,9 +1,9 @@
-use Rattle.std.proofs.Common.{◌≡◌, ℕ, ◌+◌, ◌<◌, List, [], ◌∷◌, ◌++◌, length, get_or, drop, vec_items, None, Some, sym, ap, ◌∙◌, subst, lit<, append-nil, arith, rules, tests}
+use Rattle.std.proofs.Common.{◌≡◌, ℕ, ◌<◌, List, length, get_or, vec_items, Some, sym, ap, ◌∙◌, subst, lit<, append-nil, arith, rules, tests}
 use Rattle.std.proofs.lemmas.Iterator.Splits.{YieldsList-from_str_split}
 use Rattle.std.proofs.lemmas.Iterator.Consumers.{YieldsList-from_filter, YieldsList-turn, YieldsList-end}
 use Rattle.std.proofs.lemmas.List.{at_drop_all, length_push}
 use Rattle.console.specs.Words.{words}
-use Rattle.tables.specs.Numbers.{signed_in, all_signed, before, after}
+use Rattle.tables.specs.Numbers.{all_signed, after}
 use Rattle.tables.proofs.Splitting.{is_word, words_split, read_next, read_more}
 use Rattle.tables.proofs.numbers.all_signed.Goals as goal
 
