@@ -16,6 +16,8 @@ fn alone(order: Order, rest: &str) -> Option<Order>
     is_blank(rest).then_some(order)
 }
 
+// Kept a word and what follows it, here and in the three functions below: `next_word` gives the two, each function matches the one and reads
+// the other, and a type of the two would be made only to be taken apart.
 // The order of the preparation that begins with a word, by the words that follow it.
 fn preparation(verb: &str, rest: &str) -> Option<Order>
     ensures { result ≡ called.preparation verb.now (words rest.now) }

@@ -10,7 +10,8 @@ use crate::numbers::{amount, whole};
 use console::{next_word, only_word};
 use orders::{Holder, Lot, Side};
 
-/// What one word can say. It is no `FromStr`, since std's numbers may begin with a plus.
+// Kept beside `FromStr`: std's numbers may begin with a plus.
+/// What one word can say.
 pub(crate) trait Spoken: Sized + Drop {
     /// What a word says.
     ghost says: { List ℕ → Option Self };

@@ -25,6 +25,7 @@ pub enum Request<'a> {
     Unreadable,
 }
 
+// Kept a word and what follows it: `next_word` gives the two, and a type of the two would be made for this one match.
 // What a line asks that begins with a word, by the words that follow it; `None` if the console does not know the line.
 fn request_for<'a>(verb: &str, rest: &'a str) -> Option<Request<'a>>
     ensures { meant (unwrap_or result Request.Unreadable) ≡ asked_by (verb.now ∷ words rest.now) }

@@ -70,7 +70,7 @@ fn record_size(file: &[u8]) -> usize
     ensures value { result ≡ record_bytes file.now }
     ensures bound { result < 2 ^ 19 }
 {
-    4 + 4 * factor_count(file) as usize
+    4 + 4 * usize::from(factor_count(file))
 }
 
 /// The bytes of the contract area.
@@ -78,7 +78,7 @@ pub fn contract_area_size(file: &[u8]) -> usize
     ensures value { result ≡ contract_bytes file.now }
     ensures bound { result < 2 ^ 35 }
 {
-    contract_count(file) as usize * record_size(file)
+    usize::from(contract_count(file)) * record_size(file)
 }
 
 /// The bytes of the scenario area.
@@ -87,8 +87,10 @@ pub fn scenario_area_size(file: &[u8]) -> usize
     ensures bound { result < 2 ^ 35 }
 {
     match Kind::try_from(kind_of(file)) {
-        Ok(Kind::Factors) => 4 * (scenario_count(file) as usize * factor_count(file) as usize),
-        Ok(Kind::Series) => 4 * (contract_count(file) as usize * scenario_count(file) as usize),
+        Ok(Kind::Factors) => 4
+            * (usize::from(scenario_count(file)) * usize::from(factor_count(file))),
+        Ok(Kind::Series) => 4
+            * (usize::from(contract_count(file)) * usize::from(scenario_count(file))),
         _ => 0,
     }
 }
@@ -99,7 +101,7 @@ fn record_start(file: &[u8], j: u16) -> usize
     ensures value { result ≡ contract_area file.now + record_bytes file.now * j }
     ensures bound { result < 2 ^ 36 }
 {
-    contract_start(file) as usize + record_size(file) * j as usize
+    contract_start(file) as usize + record_size(file) * usize::from(j)
 }
 
 /// The contract number of record `j`.
@@ -120,14 +122,14 @@ pub fn second_at(file: &[u8], j: u16) -> u16
 pub fn exposure_at(file: &[u8], j: u16, f: u16) -> i32
     ensures { result ≡ exposure file.now j f }
 {
-    i32_at(file, record_start(file, j) + 4 + 4 * f as usize)
+    i32_at(file, record_start(file, j) + 4 + 4 * usize::from(f))
 }
 
 /// The shock of factor `f` in scenario `s`, in ten-thousandths.
 pub fn factor_shock_at(file: &[u8], s: u16, f: u16) -> i32
     ensures { result ≡ factor_shock file.now s f }
 {
-    let word = s as usize * factor_count(file) as usize + f as usize;
+    let word = usize::from(s) * usize::from(factor_count(file)) + usize::from(f);
     i32_at(file, scenario_start(file) as usize + 4 * word)
 }
 
@@ -136,6 +138,6 @@ pub fn factor_shock_at(file: &[u8], s: u16, f: u16) -> i32
 pub fn series_shock_at(file: &[u8], j: u16, s: u16) -> i32
     ensures { result ≡ series_shock file.now j s }
 {
-    let word = j as usize * scenario_count(file) as usize + s as usize;
+    let word = usize::from(j) * usize::from(scenario_count(file)) + usize::from(s);
     i32_at(file, scenario_start(file) as usize + 4 * word)
 }

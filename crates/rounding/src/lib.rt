@@ -13,7 +13,7 @@ pub fn rounded(total: i64) -> i64
     ensures value { result ≡ nearest parts total }
     ensures near { Nearest parts total result }
 {
-    let whole = ((total.unsigned_abs() + PARTS / 2) / PARTS) as i64;
+    let whole = ((total.unsigned_abs() + PARTS / 2) / PARTS).cast_signed();
     if total < 0 { -whole } else { whole }
 }
 

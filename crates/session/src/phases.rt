@@ -9,7 +9,7 @@ pub mod opened;
 pub mod preparing;
 pub mod releasing;
 
-// Kept as two types over the same fields: a call of one time cannot be made in the other.
+// Kept as two generic types, of which the one is moved into the other: so no call of one time can be made in the other.
 /// A day that is being prepared, over one model.
 #[derive(Drop)]
 pub struct Preparation<M> {

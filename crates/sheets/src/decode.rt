@@ -25,7 +25,7 @@ use std::array;
 fn find_record(file: &[u8], contract: usize) -> Option<u16>
     ensures { result ≡ find file.now contract (contracts file.now) }
 {
-    (0..contract_count(file)).find(|&j| number_at(file, j) as usize == contract)
+    (0..contract_count(file)).find(|&j| usize::from(number_at(file, j)) == contract)
 }
 
 // The multiplier of record `j`, 0 where there is none.
@@ -74,7 +74,7 @@ impl Accepted<'_> {
             .gain(),
             Kind::Series => series_shock_at(self.file, j, s),
             Kind::Strikes => if s == j + 1 {
-                payoff_field(self.file) as i32
+                payoff_field(self.file).cast_signed()
             } else {
                 0
             },
@@ -106,6 +106,8 @@ impl Accepted<'_> {
         ensures cells { (j s : ℕ) → j < contracts self.now.file.now → s < scenarios self.now.file.now → cell_in result.cells j s ≡ record_shock self.now.file.now j s }
     {
         Shocks {
+            // Kept `as`, here and in `gain`: an accepted file has 64 scenarios at most and small gains, and `try_from` would ask for a number in
+            // place of more.
             scenarios: scenario_count(self.file) as u8,
             cells: array::from_fn(
                 |j|

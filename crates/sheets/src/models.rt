@@ -17,7 +17,7 @@ impl Index {
     fn record(&self, contract: u8) -> Option<u16>
         ensures { result ≡ record_in self.now.records contract }
     {
-        self.records[contract as usize]
+        self.records[usize::from(contract)]
     }
 }
 
@@ -28,7 +28,7 @@ impl Shocks {
         ensures { result ≡ (if nat_lt scenario self.now.scenarios then cell_in self.now.cells j scenario else pos 0) }
     {
         if scenario < self.scenarios {
-            i64::from(self.cells[j as usize][scenario as usize])
+            i64::from(self.cells[usize::from(j)][usize::from(scenario)])
         } else {
             0
         }
@@ -96,7 +96,7 @@ impl ScenarioModel for FactorSheet {
 
     fn place(&self, contract: u8) -> Option<(u8, u16)> {
         let j = self.series.index.record(contract)?;
-        Some((0, self.multipliers.cells[j as usize]))
+        Some((0, self.multipliers.cells[usize::from(j)]))
     }
 
     fn shock(&self, contract: u8, scenario: u8) -> i64 {
@@ -116,6 +116,7 @@ impl ScenarioModel for StrikeSheet {
 
     fn scenarios(&self, k: u8) -> u8 {
         if k == 0 {
+            // Kept `as`: an index of strikes counts 63 at most, and `try_from` would ask for a number in place of more.
             self.index.count as u8 + 1
         } else {
             0
@@ -145,7 +146,7 @@ impl ScenarioModel for Sheet {
     }
 
     fn scenarios(&self, k: u8) -> u8 {
-        // Kept by arms, here and below: the kinds are closed, and no function may hand out a `dyn` model.
+        // Kept by arms, here and below: the kinds are closed, and the gate refuses a function that makes a `dyn` value and hands it out.
         match self {
             Sheet::Empty(m) => m.scenarios(k),
             Sheet::Factors(m) => m.scenarios(k),

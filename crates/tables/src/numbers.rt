@@ -5,7 +5,7 @@ ghost use Rattle.std.specs.Option.{option_map};
 ghost use Rattle.console.specs.Words.{words};
 ghost use Rattle.tables.specs.Numbers.{whole_in, signed_in, all_signed, below};
 
-use console::{next_word, number};
+use console::number;
 use std::alloc::{AllocError, Global};
 
 // The number that a word of decimal digits writes, where it is at most `i64::MAX`.
@@ -30,16 +30,12 @@ pub(crate) fn signed(word: &str) -> Option<i64>
 pub(crate) fn all_signed(heap: Global, text: &str) -> Result<Option<Vec<i64>>, AllocError>
     ensures { IfOk result (λ o. option_map vec_items o ≡ all_signed (words text.now)) }
 {
-    // Kept a loop over the rest: std's `split_whitespace` splits at tabs too, which here are part of a word, and an iterator of our own
-    // would carry the same rest, and laws besides.
     let mut numbers = Vec::new(heap);
-    let mut rest = text;
-    while let Some((word, after)) = next_word(rest) {
+    for word in text.split(' ').filter(|word| !word.is_empty()) {
         let Some(number) = signed(word) else {
             return Ok(None);
         };
         numbers.push(number)?;
-        rest = after;
     }
     Ok(Some(numbers))
 }

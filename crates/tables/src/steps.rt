@@ -45,6 +45,8 @@ fn traded(word: &str, contract: i64, count: i64, price: i64) -> Option<Position>
     position(contract, quantity(word, count)?, price)
 }
 
+// Kept a word and its numbers, here, in `question_in` and in an example's `take` and `figure`: a row gives the two, each function matches them,
+// and a type of the two would be made only to be taken apart.
 /// The step that a word says with numbers.
 pub(crate) fn step_in(word: &str, numbers: &[i64]) -> Option<Step>
     ensures { option_map step_of result ≡ stepped word.now numbers.now }

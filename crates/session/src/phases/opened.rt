@@ -88,6 +88,7 @@ impl<M: ScenarioModel> Session<M> {
         pass_window(&mut self.book)
     }
 
+    // Kept a place to fill: a statement goes where the caller has room for it, and a refused one leaves that as it was.
     /// Fills a place with a trader's statement. Where the trader is unknown, the place stays as it was.
     pub fn statement(&self, trader: u64, place: &mut Statement) -> Result<(), Refusal>
         ensures rules { Answered (M.ScenarioModel.table self.now.model) (open_ledger self.now) (statementCall trader) (answered (λ _. stated (statement_in place.new)) result) (open_ledger self.now) }
