@@ -20,6 +20,7 @@ use orders::Holder;
 use refusals::Refusal;
 use rules::bounds::{MOST_AMOUNT, MOST_SLIPS, MOST_STANDING};
 
+// Kept a holder and an amount, here and in the two functions below: a call gives the two as they were ordered, and a type of the two would be made only to be taken apart.
 /// Adds to the collateral of a holder.
 pub fn deposit(book: &mut Book, holder: Holder, amount: i64) -> Result<(), Refusal>
     ensures { (m : ScenarioTable) → Answered m (ledger_in book.old) (depositCall (holder_of holder) amount) (answered (λ _. accepted) result) (ledger_in book.new) }
