@@ -60,6 +60,7 @@ impl Line {
     }
 
     // Writes a number in decimal digits.
+    // Kept `as`, twice: a digit is below 10, so that nothing is cut off, and `try_from` would only add an `unwrap` to each.
     #[tactic(auto, using(crate::proofs::Decimals::one_digit, crate::proofs::Decimals::one_more))]
     fn push_digits(&mut self, number: u128)
         ensures { written self.new ≡ followed (written self.old) (decimal number) }
