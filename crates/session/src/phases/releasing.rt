@@ -67,7 +67,7 @@ impl<M: ScenarioModel> Session<M> {
         ensures { result ≡ (int_lt (limit (M.ScenarioModel.table self.now.model) (ledger_in tried.now) trader) (limit (M.ScenarioModel.table self.now.model) (open_ledger self.now) trader) && int_lt (limit (M.ScenarioModel.table self.now.model) (ledger_in tried.now) trader) (pos 0)) }
     {
         let left = self.day_with(tried).limit_of(trader);
-        left < self.day().limit_of(trader) && left < 0
+        left < 0 && left < self.day().limit_of(trader)
     }
 
     /// Takes a trade from its client again, unless that lowers its trader's limit to below zero.
