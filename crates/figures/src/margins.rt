@@ -33,14 +33,15 @@ fn count_in<M: ScenarioModel>(row: &mut Row, model: &M, position: &Position, k: 
     }
 }
 
-/// Counts what positions lose in each scenario of subportfolio `k`, in a row that holds nothing yet.
-fn count_losses<M: ScenarioModel>(row: &mut Row, model: &M, positions: Positions, k: u8)
-    requires { (s : ℕ) → at row.old s ≡ pos 0 }
-    ensures { Holds row.new ((M.ScenarioModel.table model.now).scenarios k) (losses_in (M.ScenarioModel.table model.now) (λ c. 0) lost_together (positions_of positions.entry.all.now) k) (1024 * 1000000000000) }
+/// What positions lose in each scenario of subportfolio `k`.
+fn losses_in<M: ScenarioModel>(model: &M, positions: Positions, k: u8) -> Row
+    ensures { Holds result ((M.ScenarioModel.table model.now).scenarios k) (losses_in (M.ScenarioModel.table model.now) (λ c. 0) lost_together (positions_of positions.entry.all.now) k) (1024 * 1000000000000) }
 {
+    let mut row = [0; MOST_SCENARIOS];
     for position in positions.all {
-        count_in(row, model, position, k);
+        count_in(&mut row, model, position, k);
     }
+    row
 }
 
 /// The margin of positions that are few enough.
@@ -48,8 +49,7 @@ fn margin_of<M: ScenarioModel>(model: &M, positions: Positions, k: u8) -> i64
     ensures value { result ≡ margin (M.ScenarioModel.table model.now) (positions_of positions.entry.all.now) k }
     ensures small { unsigned_abs result ≤ 1024 * 1000000000000 }
 {
-    let mut row = [0; MOST_SCENARIOS];
-    count_losses(&mut row, model, positions, k);
+    let row = losses_in(model, positions, k);
     greatest_of(&row[..usize::from(model.scenarios(k))])
 }
 

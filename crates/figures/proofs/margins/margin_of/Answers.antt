@@ -6,23 +6,20 @@ use Rattle.figures.specs.Sums.{greatest_below}
 use Rattle.figures.proofs.Greatest.{greatest_small}
 use Rattle.figures.proofs.Meanings.{margin_is}
 use Rattle.figures.proofs.Sizes.{kept64}
-use Rattle.figures.proofs.Summing.{zero_at, holds_front}
+use Rattle.figures.proofs.Summing.{holds_front}
 use Rattle.figures.proofs.margins.margin_of.Goals as goal
-
-pub count_losses-requires : goal.count_losses-requires
-count_losses-requires g c = zero_at 64
 
 pub returns : goal.returns
 returns g c =
     let m = g.M.ScenarioModel.table c.args.model.now in
     let law = g.met.M.ScenarioModel.lawful c.args.model.now in
-    let row = c.count_losses.new.row in
+    let row = c.losses_in-row.result in
     let k = m.scenarios c.args.k in
     let n = c.from.result in
     let same : n ≡ k = omega (arith, c.from.ensures, c.scenarios.ensures) in
     let wide : length row ≡ 64 = search rules in
     let long : length (take n row) ≡ k = omega (arith, length-take n row, same, wide, law.few_scenarios c.args.k) in
-    let held = subst (λ (j : ℕ). Holds (take j row) k (losses_in m (λ _. 0) lost_together (positions_of c.args.positions.all.now) c.args.k) 1024000000000000) (sym same) (holds_front row k _ _ c.count_losses.ensures) in
+    let held = subst (λ (j : ℕ). Holds (take j row) k (losses_in m (λ _. 0) lost_together (positions_of c.args.positions.all.now) c.args.k) 1024000000000000) (sym same) (holds_front row k _ _ c.losses_in-row.ensures) in
     let small : nat_abs c.greatest_of.result ≤ 1024000000000000 = subst (λ (z : ℤ). nat_abs z ≤ 1024000000000000) (sym c.greatest_of.ensures) (greatest_small (length (take n row)) 1024000000000000 (at (take n row)) held.small) in
     let e = kept64 c.greatest_of.result (omega (arith, small)) in
     record {

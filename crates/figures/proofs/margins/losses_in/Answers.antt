@@ -3,8 +3,11 @@ use Rattle.figures.specs.Losses.{lost_together, loses_in}
 use Rattle.figures.specs.Positions.{position_of}
 use Rattle.figures.proofs.Adding.{total_next}
 use Rattle.figures.proofs.Sizes.{most_more}
-use Rattle.figures.proofs.Summing.{holds_more}
-use Rattle.figures.proofs.margins.count_losses.Goals as goal
+use Rattle.figures.proofs.Summing.{zero_at, holds_zero, holds_more}
+use Rattle.figures.proofs.margins.losses_in.Goals as goal
+
+pub loop-position-init : goal.loop-position-init
+loop-position-init g c = (omega arith, holds_zero _ _ (zero_at 64))
 
 pub loop-position-preserved : goal.loop-position-preserved
 loop-position-preserved g c =

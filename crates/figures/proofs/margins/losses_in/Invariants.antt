@@ -1,7 +1,7 @@
 use Rattle.std.proofs.Common.{◌*◌, ◌≤◌, length, take}
 use Rattle.figures.specs.Losses.{lost_together, losses_in, Holds}
 use Rattle.figures.specs.Positions.{positions_of}
-use Rattle.figures.proofs.margins.count_losses.Given as goal
+use Rattle.figures.proofs.margins.losses_in.Given as goal
 
 abbrev pub invariant-loop-position : goal.invariant-loop-position
 invariant-loop-position g l =
