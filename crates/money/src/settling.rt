@@ -55,6 +55,7 @@ pub fn pass_window(book: &mut Book) -> Result<(), Refusal>
 fn set_needs(clients: &mut Rows<Client, 128>, needs: &[i64; 128])
     ensures { clients_in clients.new ≡ opened (λ c. get_or needs.now c (pos 0)) 0 (clients_in clients.old) }
 {
+    // Kept by place: `iter_mut().zip(needs)` was tried, and what such a loop leaves in the rows stayed open.
     for (place, row) in clients.as_mut_slice().iter_mut().enumerate() {
         row.opening_need = needs[place];
     }

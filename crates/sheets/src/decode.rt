@@ -106,8 +106,8 @@ impl Accepted<'_> {
         ensures cells { (j s : ℕ) → j < contracts self.now.file.now → s < scenarios self.now.file.now → cell_in result.cells j s ≡ record_shock self.now.file.now j s }
     {
         Shocks {
-            // Kept `as`, here and in `gain`: an accepted file has 64 scenarios at most and small gains, and `try_from` would ask for a number in
-            // place of more.
+            // Kept `as`, here and in `gain`: an accepted file has 64 scenarios at most and small gains, so that nothing is cut off, and
+            // `try_from` would only add an `unwrap` to each.
             scenarios: scenario_count(self.file) as u8,
             cells: array::from_fn(
                 |j|

@@ -116,7 +116,7 @@ impl ScenarioModel for StrikeSheet {
 
     fn scenarios(&self, k: u8) -> u8 {
         if k == 0 {
-            // Kept `as`: an index of strikes counts 63 at most, and `try_from` would ask for a number in place of more.
+            // Kept `as`: an index of strikes counts 63 at most, so that nothing is cut off, and `try_from` would only add an `unwrap`.
             self.index.count as u8 + 1
         } else {
             0

@@ -74,7 +74,7 @@ impl<'a, M: ScenarioModel> Day<'a, M> {
         ensures { map figures_in (listed result) ≡ map (client_figures (M.ScenarioModel.table self.now.model.now) (ledger_in self.now.book.now)) (clients_of (ledger_in self.now.book.now) trader) }
     {
         let mut found = Rows::new();
-        // Kept by number: the figures of a client carry its number, and its trades are found by it; a place among the rows would have to be narrowed to one.
+        // Kept by number: the figures of a client carry its number, and its trades are found by it; the rows beside the numbers would only save that each is read by its number.
         for number in 0..self.book.client_count() {
             if let Some(figures) = self.figures_if(trader, number) {
                 let _ = found.push(figures);
