@@ -1,8 +1,9 @@
 //! The start of what a source gives.
 
-ghost use Rattle.std.specs.Prelude.{◌≡◌, ◌+◌, ◌<◌, ◌≤◌, length, take, drop, IfOk, OnErr};
+ghost use Rattle.std.specs.Prelude.{◌≡◌, ◌≢◌, ◌+◌, ◌<◌, ◌≤◌, length, take, drop, IfOk, IfErr, OnErr};
 ghost use Rattle.std.specs.Io.{ReadsAtMost};
 ghost use Rattle.std.specs.Io.KnownBytes.{Keeps, Consumes, IsAtEnd};
+ghost use Rattle.std.specs.IoError.{error_kind};
 
 use std::io;
 use std::io::{ErrorKind, Read};
@@ -13,6 +14,7 @@ pub(crate) fn read_once<R: Read>(source: &mut R, chunk: &mut [u8]) -> io::Result
     ensures ok { IfOk result (λ n. Consumes (R.remaining source.old) (R.remaining source.new) (take n chunk.new)) }
     ensures end { IfOk result (λ n. n ≡ 0 → 0 < length chunk.old → IsAtEnd (R.remaining source.new)) }
     ensures err { OnErr result (Keeps (R.remaining source.old) (R.remaining source.new)) }
+    ensures retried { IfErr result (λ e. error_kind e ≢ ErrorKind.Interrupted) }
 {
     for _ in 0..u64::MAX {
         match source.read(chunk) {
@@ -20,7 +22,7 @@ pub(crate) fn read_once<R: Read>(source: &mut R, chunk: &mut [u8]) -> io::Result
             outcome => return outcome,
         }
     }
-    Err(io::Error::from(ErrorKind::Interrupted))
+    Err(io::Error::from(ErrorKind::Other))
 }
 
 // One read into the room from a place on.
@@ -31,6 +33,7 @@ fn read_from<R: Read>(source: &mut R, room: &mut [u8], at: usize) -> io::Result<
     ensures ok { IfOk result (λ n. Consumes (R.remaining source.old) (R.remaining source.new) (take n (drop at room.new))) }
     ensures end { IfOk result (λ n. n ≡ 0 → at < length room.old → IsAtEnd (R.remaining source.new)) }
     ensures err { OnErr result (Keeps (R.remaining source.old) (R.remaining source.new)) }
+    ensures retried { IfErr result (λ e. error_kind e ≢ ErrorKind.Interrupted) }
 {
     read_once(source, &mut room[at..])
 }
@@ -40,6 +43,7 @@ pub fn read_start<R: Read>(source: &mut R, room: &mut [u8]) -> io::Result<usize>
     ensures fits { IfOk result (λ n. n ≤ length room.new) }
     ensures bytes { IfOk result (λ n. Consumes (R.remaining source.old) (R.remaining source.new) (take n room.new)) }
     ensures end { IfOk result (λ n. n < length room.new → IsAtEnd (R.remaining source.new)) }
+    ensures retried { IfErr result (λ e. error_kind e ≢ ErrorKind.Interrupted) }
 {
     let mut used = 0;
     for _ in 0..u64::MAX {

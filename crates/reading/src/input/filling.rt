@@ -1,7 +1,8 @@
 //! The lines of an input.
 
-ghost use Rattle.std.specs.Prelude.{◌≡◌, ◌≤◌, ◌++◌, slice_range, Ok, None, IfOk, OnOk};
+ghost use Rattle.std.specs.Prelude.{◌≡◌, ◌≢◌, ◌≤◌, ◌++◌, slice_range, Ok, None, IfOk, IfErr, OnOk};
 ghost use Rattle.std.specs.Io.KnownBytes.{Keeps, Consumes, IsAtEnd};
+ghost use Rattle.std.specs.IoError.{error_kind};
 ghost use Rattle.reading.specs.Lines.{unread, byte_list, Tells};
 
 use crate::input::{CHUNK, Input};
@@ -27,6 +28,7 @@ impl<R: Read> Input<R> {
     fn fill(&mut self) -> io::Result<()>
         ensures bytes { Keeps (unread R.remaining self.old) (unread R.remaining self.new) }
         ensures end { OnOk result (self.new.end ≤ self.new.start → IsAtEnd (unread R.remaining self.new)) }
+        ensures retried { IfErr result (λ e. error_kind e ≢ ErrorKind.Interrupted) }
     {
         if self.start < self.end {
             return Ok(());
@@ -55,6 +57,7 @@ impl<R: Read> Input<R> {
     fn next_byte(&mut self) -> io::Result<Option<u8>>
         ensures bytes { IfOk result (λ o. Consumes (unread R.remaining self.old) (unread R.remaining self.new) (byte_list o)) }
         ensures end { result ≡ Ok None → IsAtEnd (unread R.remaining self.new) }
+        ensures retried { IfErr result (λ e. error_kind e ≢ ErrorKind.Interrupted) }
     {
         self.fill()?;
         Ok(self.take_byte())
@@ -63,7 +66,8 @@ impl<R: Read> Input<R> {
     /// Reads the next line, up to its line feed or the end of the input, and no byte more than is at hand then. Of a line that is too
     /// long the rest is passed over.
     pub fn next_line(&mut self, line: &mut InputLine) -> io::Result<Reached>
-        ensures { Tells (unread R.remaining self.old) (unread R.remaining self.new) result line.new }
+        ensures tells { Tells (unread R.remaining self.old) (unread R.remaining self.new) result line.new }
+        ensures retried { IfErr result (λ e. error_kind e ≢ ErrorKind.Interrupted) }
     {
         *line = InputLine::new();
         for _ in 0..u64::MAX {
