@@ -82,7 +82,9 @@ fn place_among<T: Ranked>(held: &[T], x: T) -> usize
     ensures place { result ≡ position_or_len (T.before x) held.now }
     ensures within { result ≤ length held.now }
 {
-    held.iter().position(|y| x.outranks(y)).unwrap_or(held.len())
+    held.iter()
+        .position(|y| x.outranks(y))
+        .unwrap_or(held.len())
 }
 
 /// Fills `cells` with the greatest of the `offered` records, greatest first, and tells how many cells are filled.

@@ -1,4 +1,4 @@
-use Rattle.std.proofs.Common.{◌∙◌, arith}
+use Rattle.std.proofs.Common.{◌∙◌}
 use Rattle.deficits.proofs.Ranking.{greater_ahead}
 use Rattle.deficits.proofs.DeficitRanked.outranks.Goals as goal
 
