@@ -2,6 +2,7 @@
 use Rattle.std.proofs.Common.{◌≡◌, ℕ, Bool, true, false, cond, List, [], ◌∷◌, ◌++◌, take, ℤ, ◌≤ℤ◌, ◌<ℤ◌, fold, sym, refl, ap, ◌∙◌, arith}
 use lib.Signed.{lt_z}
 use Rattle.std.specs.Cmp.{IsStrictWeakOrder}
+use Rattle.std.specs.Ordering.{is_gt}
 use Rattle.std.specs.List.{AllByRecursion}
 use Rattle.std.proofs.lemmas.List.{take-map}
 use Rattle.std.proofs.lemmas.Int.{ints, by_lt_z}
@@ -89,6 +90,13 @@ by_tests i x y = same_test i
   where
     same_test : ahead_by by_amount x y ≡ ahead x y
     same_test = grind (arith, ints, nat_tests)
+
+-- what `>` answers
+pub greater_ahead : (x y : Deficit) → is_gt (by_amount x y) ≡ ahead x y
+greater_ahead x y = turned ∙ (λ i. by_tests i x y)
+  where
+    turned : is_gt (by_amount x y) ≡ ahead_by by_amount x y
+    turned = grind (arith, ints, nat_tests)
 
 pub ahead_ranks : IsStrictWeakOrder ahead
 ahead_ranks = record { one_way = λ x y h. grind (arith, ints, nat_tests); chain = λ x y z h k. grind (arith, ints, nat_tests) }

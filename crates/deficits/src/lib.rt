@@ -69,8 +69,17 @@ impl PartialOrd for Deficit {
     }
 }
 
+/// The greater is ahead: the larger amount, and of equal amounts the lower client.
 impl Ranked for Deficit {
+    ghost before = { ahead };
+
+    ghost ranks = { Prim.search rules };
+
     ghost apart = { Prim.search rules };
+
+    fn outranks(&self, other: &Deficit) -> bool {
+        self > other
+    }
 }
 
 /// How many deficits were picked, and what they sum to.

@@ -18,7 +18,7 @@ use Rattle.keeper.proofs.Place.{insert_at_place}
 use Rattle.keeper.proofs.Kept.{all_insert, length_insert, length_ranked, length_kept, take_min}
 
 module _ {A : Type 0} where
-  -- any two records compare
+  -- any two records with std's order compare: for `ranks` of those that take it for their order
   pub ahead_ranks : (cmp : A → A → Ordering) → IsTotalOrder cmp → IsStrictWeakOrder (ahead_by cmp)
   ahead_ranks cmp o = IsStrictWeakOrder-flip (λ x y. is_lt (cmp x y)) (ranks_by o (λ x. x))
 

@@ -1,5 +1,5 @@
--- Laws of `insert`, `ranked` and `kept` under any order, and two steps of a caller's loop over offers: `keeping_more` after each
--- offer, `keeping_done` once the keeper has given its cells back. Assumes nothing.
+-- Laws of `insert`, `ranked` and `kept` under any order, and the three steps of a caller's loop over offers: `keeping_none` before the first
+-- offer, `keeping_more` after each, `keeping_done` once the keeper has given its cells back. Assumes nothing.
 use Rattle.std.proofs.Common.{◌≡◌, ℕ, zero, suc, ◌+◌, ◌-◌, ◌<◌, ◌≤◌, min, Bool, true, false, cond, List, [], ◌∷◌, ◌++◌, length, take, drop, fold, sym, refl, ap, ◌∙◌, arith}
 use Rattle.std.specs.List.{AllByRecursion}
 use Rattle.std.proofs.ByRecursion.{All-take}
@@ -68,6 +68,13 @@ module _ {A : Type 0} where
     length_kept n xs = simp (length-take, length_ranked)
 
     -- ---- a caller's loop
+    pub keeping_none : (es : List A) → Keeping b es [] 0 es
+    keeping_none es = record { count = omega arith; held = none (length es); rest = refl; size = refl }
+      where
+        none : (n : ℕ) → take 0 es ≡ kept b n []
+        none zero = refl
+        none (suc n) = refl
+
     -- after the offer of x, by what `offer` promises
     pub keeping_more : (es xs : List A) (x : A) (f : ℕ) (cs : List A) (f' : ℕ) (cs' : List A) → Keeping b es xs f cs
         → f' ≡ min (length cs) (f + 1) → take f' cs' ≡ take (length cs) (insert b x (take f cs)) → drop f' cs' ≡ drop f' cs → length cs' ≡ length cs
