@@ -1,13 +1,12 @@
 //! The causes that the header alone can give: length, kind, counts and areas.
 
-#![tactic(auto, unfolding(crate::specs::Causes::wrong_length, crate::specs::Causes::right_counts, crate::specs::Causes::overlap, crate::specs::Causes::wrong_area))]
+#![tactic(auto, unfolding(crate::specs::Causes::wrong_length, crate::specs::Causes::wrong_kind, crate::specs::Causes::right_counts, crate::specs::Causes::overlap, crate::specs::Causes::wrong_area))]
 
 ghost use Rattle.std.specs.Prelude.{◌≡◌};
-ghost use Rattle.inspection.specs.Causes.{wrong_length, right_counts, overlap, wrong_area};
+ghost use Rattle.inspection.specs.Causes.{wrong_length, wrong_kind, right_counts, overlap, wrong_area};
 
-use crate::named::NamedFile;
 use layout::fields::{
-    contract_area_size, contract_count, contract_start, factor_count, length_field,
+    contract_area_size, contract_count, contract_start, factor_count, kind_of, length_field,
     scenario_area_size, scenario_count, scenario_start,
 };
 use layout::kinds::Kind;
@@ -36,22 +35,27 @@ pub(crate) fn has_wrong_length(file: &[u8]) -> bool
     !(HEADER..=LONGEST).contains(&file.len()) || length_field(file) as usize != file.len()
 }
 
-impl NamedFile<'_> {
-    pub(crate) fn has_right_counts(&self) -> bool
-        ensures { result ≡ right_counts self.now.file.now }
-    {
-        let n = contract_count(self.file);
-        let s = scenario_count(self.file);
-        let f = factor_count(self.file);
-        match self.of {
-            Kind::Factors => (1..=MOST_CONTRACTS).contains(&n)
-                && (1..=MOST_SCENARIOS).contains(&s)
-                && (1..=MOST_FACTORS).contains(&f),
-            Kind::Series => (1..=MOST_CONTRACTS).contains(&n)
-                && (1..=MOST_SCENARIOS).contains(&s)
-                && f == 0,
-            Kind::Strikes => (1..=MOST_STRIKES).contains(&n) && s == n + 1 && f == 0,
-        }
+pub(crate) fn has_wrong_kind(file: &[u8]) -> bool
+    ensures { result ≡ wrong_kind file.now }
+{
+    Kind::try_from(kind_of(file)).is_err()
+}
+
+// A file of no known kind is counted as one of strikes, as the definition says.
+pub(crate) fn has_right_counts(file: &[u8]) -> bool
+    ensures { result ≡ right_counts file.now }
+{
+    let n = contract_count(file);
+    let s = scenario_count(file);
+    let f = factor_count(file);
+    match Kind::try_from(kind_of(file)) {
+        Ok(Kind::Factors) => (1..=MOST_CONTRACTS).contains(&n)
+            && (1..=MOST_SCENARIOS).contains(&s)
+            && (1..=MOST_FACTORS).contains(&f),
+        Ok(Kind::Series) => (1..=MOST_CONTRACTS).contains(&n)
+            && (1..=MOST_SCENARIOS).contains(&s)
+            && f == 0,
+        Ok(Kind::Strikes) | Err(_) => (1..=MOST_STRIKES).contains(&n) && s == n + 1 && f == 0,
     }
 }
 

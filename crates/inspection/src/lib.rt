@@ -9,12 +9,10 @@ ghost use Rattle.layout.specs.Kinds.{kind_number};
 ghost use Rattle.inspection.specs.Causes.{sheet_cause};
 
 mod counts;
-mod named;
 mod rows;
 
 use layout::fields::kind_of;
 pub use layout::kinds::Kind;
-use named::NamedFile;
 use refusals::Refusal;
 
 /// The kind of an accepted file, or the first cause, in the order of the table, for which it is refused.
@@ -27,9 +25,10 @@ pub fn inspect(file: &[u8]) -> Result<Kind, Refusal>
     if counts::has_wrong_length(file) {
         return Err(Refusal::WrongLength);
     }
-    let of = Kind::try_from(kind_of(file)).map_err(|_| Refusal::WrongKind)?;
-    let sheet = NamedFile { file, of };
-    if !sheet.has_right_counts() {
+    if counts::has_wrong_kind(file) {
+        return Err(Refusal::WrongKind);
+    }
+    if !counts::has_right_counts(file) {
         return Err(Refusal::WrongCount);
     }
     if counts::has_wrong_area(file) {
@@ -38,11 +37,11 @@ pub fn inspect(file: &[u8]) -> Result<Kind, Refusal>
     if !rows::has_right_numbers(file) {
         return Err(Refusal::WrongNumber);
     }
-    if !sheet.has_right_fields() {
+    if !rows::has_right_fields(file) {
         return Err(Refusal::WrongField);
     }
-    if !sheet.starts_unmoved() {
+    if !rows::starts_unmoved(file) {
         return Err(Refusal::MovedFirst);
     }
-    Ok(of)
+    Ok(Kind::try_from(kind_of(file)).unwrap())
 }

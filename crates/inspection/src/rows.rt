@@ -7,9 +7,8 @@ ghost use Rattle.layout.specs.Fields.{contracts, scenarios, second};
 ghost use Rattle.inspection.specs.Tests.{every, within};
 ghost use Rattle.inspection.specs.Causes.{right_numbers, right_record, factors_within, series_within, right_fields, unmoved_first};
 
-use crate::named::NamedFile;
 use layout::fields::{
-    contract_count, exposure_at, factor_count, factor_shock_at, number_at, payoff_field,
+    contract_count, exposure_at, factor_count, factor_shock_at, kind_of, number_at, payoff_field,
     scenario_count, second_at, series_shock_at,
 };
 use layout::kinds::Kind;
@@ -89,30 +88,29 @@ fn has_right_series(file: &[u8]) -> bool
     (0..contract_count(file)).all(|j| has_series_within(file, MOST_SHOCK, j))
 }
 
-impl NamedFile<'_> {
-    pub(crate) fn has_right_fields(&self) -> bool
-        ensures { result ≡ right_fields self.now.file.now }
-    {
-        let file = self.file;
-        let payoff = payoff_field(file);
-        match self.of {
-            Kind::Factors => payoff == 0 && has_right_factors(file),
-            Kind::Series => payoff == 0 && has_zero_seconds(file) && has_right_series(file),
-            Kind::Strikes => (1..=MOST_PAYOFF).contains(&payoff) && has_zero_seconds(file),
-        }
+// A file of no known kind has no payoff and no multipliers, as the definition says.
+pub(crate) fn has_right_fields(file: &[u8]) -> bool
+    ensures { result ≡ right_fields file.now }
+{
+    let payoff = payoff_field(file);
+    match Kind::try_from(kind_of(file)) {
+        Ok(Kind::Factors) => payoff == 0 && has_right_factors(file),
+        Ok(Kind::Series) => payoff == 0 && has_zero_seconds(file) && has_right_series(file),
+        Ok(Kind::Strikes) => (1..=MOST_PAYOFF).contains(&payoff) && has_zero_seconds(file),
+        Err(_) => payoff == 0 && has_zero_seconds(file),
     }
+}
 
-    pub(crate) fn starts_unmoved(&self) -> bool
-        ensures { result ≡ unmoved_first self.now.file.now }
-    {
-        let file = self.file;
-        match self.of {
-            Kind::Factors => has_factors_within(file, 0, 0),
-            Kind::Series => (0..contract_count(file)).all(|j| is_within(
-                0,
-                series_shock_at(file, j, 0),
-            )),
-            Kind::Strikes => true,
-        }
+// A file of no known kind has no shocks, and neither has one of strikes.
+pub(crate) fn starts_unmoved(file: &[u8]) -> bool
+    ensures { result ≡ unmoved_first file.now }
+{
+    match Kind::try_from(kind_of(file)) {
+        Ok(Kind::Factors) => has_factors_within(file, 0, 0),
+        Ok(Kind::Series) => (0..contract_count(file)).all(|j| is_within(
+            0,
+            series_shock_at(file, j, 0),
+        )),
+        Ok(Kind::Strikes) | Err(_) => true,
     }
 }

@@ -90,6 +90,18 @@ deposit_free m l h a x y z = skip _ 10 _ _ x (skip _ 12 _ _ (ap not y) (skip _ 1
 pub deposit_over : (m : ScenarioTable) (l : Ledger) (h : Holder) (a : ℤ) → no_such_holder l h ≡ false → is_amount a ≡ true → lt_z (pos most_amount) (collateral_of l h +ℤ slips_of l h +ℤ a) ≡ true → cause m l (deposit h a) ≡ Some 18
 deposit_over m l h a x y z = skip _ 10 _ _ x (skip _ 12 _ _ (ap not y) (hit _ 18 _ z))
 
+-- ---- the rows of a withdrawal
+
+module _ (l : Ledger) (h : Holder) (a : ℤ) (known : no_such_holder l h ≡ false) (room : (not (ltb (length l.slips) most_standing) || not (ltb l.made most_slips)) ≡ false) where
+  pub no_amount : is_amount a ≡ false → Some 12 ≡ pay_cause l h a
+  no_amount e = sym (skip _ 10 _ _ known (skip _ 11 _ _ room (hit _ 12 _ (ap not e))))
+
+  pub not_enough : is_amount a ≡ true → lt_z (collateral_of l h) a ≡ true → Some 19 ≡ pay_cause l h a
+  not_enough e f = sym (skip _ 10 _ _ known (skip _ 11 _ _ room (skip _ 12 _ _ (ap not e) (hit _ 19 _ f))))
+
+  pub pay_free : is_amount a ≡ true → lt_z (collateral_of l h) a ≡ false → None ≡ pay_cause l h a
+  pay_free e f = sym (skip _ 10 _ _ known (skip _ 11 _ _ room (skip _ 12 _ _ (ap not e) (skip _ 19 _ _ f refl))))
+
 -- what a free withdrawal tells
 pub record FreeToPay (l : Ledger) (h : Holder) (a : ℤ) : Type 0 where
   pub known : no_such_holder l h ≡ false

@@ -123,6 +123,11 @@ module _ (a b : ScenarioTable) (la : Lawful a) (lb : Lawful b) where
             rw f.0 (moved_both (λ z. z ≡ pos 0) a.subportfolios (b.place c) (b.shock c s) (lb.missing_still c o.0 m s o.1 l) refl)
       ]
 
+  -- a place of the second, moved, is a small number
+  pub moved_small : (c k m : ℕ) → Some (k, m) ≡ b.place c → a.subportfolios + k < 16
+  moved_small c k m e =
+      omega (arith, la.few_subportfolios, lb.few_subportfolios, lb.placed_within c k m (sym e))
+
   pub pair_lawful : Lawful (pair_table a b)
   pair_lawful = record {
     some_subportfolio = omega (arith, la.some_subportfolio);

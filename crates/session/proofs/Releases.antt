@@ -7,12 +7,13 @@ use Rattle.rules.specs.Bounds.{most_standing, most_slips}
 use Rattle.rules.specs.Ledger.{Ledger, Holder, Slip, collateral_of, holders_trader}
 use Rattle.rules.specs.Limits.{limit}
 use Rattle.rules.specs.Causes.{withdraw, cause, entered, short, no_such_holder, is_amount}
-use Rattle.rules.specs.Answers.{Answered, refused}
-use Rattle.rules.proofs.Answered.{refuses}
+use Rattle.rules.specs.Answers.{Answered, refused, handed}
+use Rattle.rules.proofs.Answered.{refuses, accepts}
 use Rattle.rules.proofs.Rows.{skip}
 use Rattle.refusals.specs.declared.Refusal.{Refusal}
 use Rattle.refusals.specs.Numbers.{number_of}
 use Rattle.book.specs.declared.stubs.Stub.{Stub}
+use Rattle.book.specs.Means.{slip_in}
 use Rattle.std.specs.Result.{IsErrAnd}
 use Rattle.orders.specs.Meant.{holder_of}
 use Rattle.money.specs.Paid.{pay_cause, PaidOut}
@@ -50,14 +51,18 @@ module _ (m : ScenarioTable) (l : Ledger) (h : Holder) (a : ℤ) (l' : Ledger) w
   withdraw_refused e p = refuses m l (withdraw h a) (number_of e) (not_paid m l h a (number_of e) p.caused)
 
   module _ (s : Stub) (p : PaidOut l h a (Ok s) l') where
+    decided : (t : Bool) → t ≡ (short m l h a || lt_z (limit m l' (holders_trader l h)) (pos 0)) → cause m l (withdraw h a) ≡ cond {A = Option ℕ} t (Some 19) None
+    decided t e = paid_if_covered m l h a p.caused ∙ ap (λ (k : Ledger). cond {A = Option ℕ} (short m l h a || lt_z (limit m k (holders_trader l h)) (pos 0)) (Some 19) None) (sym p.leaves) ∙ ap (λ (b : Bool). cond {A = Option ℕ} b (Some 19) None) (sym e)
+
     -- what was asked of the slip was asked of the holder and the amount
-    decided : (t : Bool) → (no_such_holder l (holder_of s.holder) ≡ false → t ≡ (short m l (holder_of s.holder) s.amount.amount || lt_z (limit m l' (holders_trader l (holder_of s.holder))) (pos 0))) → cause m l (withdraw h a) ≡ cond {A = Option ℕ} t (Some 19) None
-    decided t e =
-        let is = subst (λ (x : Slip). no_such_holder l x.holder ≡ false → t ≡ (short m l x.holder x.amount || lt_z (limit m l' (holders_trader l x.holder)) (pos 0))) p.slip e (free_to_pay l h a p.caused).known in
-        paid_if_covered m l h a p.caused ∙ ap (λ (k : Ledger). cond {A = Option ℕ} (short m l h a || lt_z (limit m k (holders_trader l h)) (pos 0)) (Some 19) None) (sym p.leaves) ∙ ap (λ (b : Bool). cond {A = Option ℕ} b (Some 19) None) (sym is)
+    asked : (t : Bool) → (no_such_holder l (holder_of s.holder) ≡ false → t ≡ (short m l (holder_of s.holder) s.amount.amount || lt_z (limit m l' (holders_trader l (holder_of s.holder))) (pos 0))) → t ≡ (short m l h a || lt_z (limit m l' (holders_trader l h)) (pos 0))
+    asked t e = subst (λ (x : Slip). no_such_holder l x.holder ≡ false → t ≡ (short m l x.holder x.amount || lt_z (limit m l' (holders_trader l x.holder)) (pos 0))) p.slip e (free_to_pay l h a p.caused).known
 
     pub withdraw_uncovered : (no_such_holder l (holder_of s.holder) ≡ false → true ≡ (short m l (holder_of s.holder) s.amount.amount || lt_z (limit m l' (holders_trader l (holder_of s.holder))) (pos 0))) → Answered m l (withdraw h a) (refused 19) l
-    withdraw_uncovered e = refuses m l (withdraw h a) 19 (decided true e)
+    withdraw_uncovered e = refuses m l (withdraw h a) 19 (decided true (asked true e))
+
+    pub withdraw_paid : false ≡ (short m l h a || lt_z (limit m l' (holders_trader l h)) (pos 0)) → Answered m l (withdraw h a) (handed (slip_in s)) l'
+    withdraw_paid e = accepts m l (withdraw h a) (handed (slip_in s)) l' (decided false e) (ap handed p.slip) p.leaves
 
 -- the refusal that a `?` answers
 pub err_is : {X : Type 0} (r : Result X Refusal) (e : Refusal) → IsErrAnd r (λ y. y ≡ e) → r ≡ Err e
