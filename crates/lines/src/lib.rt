@@ -60,9 +60,9 @@ impl Line {
     }
 
     // Writes a number in decimal digits.
-    // Kept `as`, twice: a digit is below 10, so that nothing is cut off, and `try_from` would only add an `unwrap` to each.
+    // Kept `as`, here and below: a digit is below 10, so that nothing is cut off, and `try_from` would only add an `unwrap` to each.
     #[tactic(auto, using(crate::proofs::Decimals::one_digit, crate::proofs::Decimals::one_more))]
-    fn push_digits(&mut self, number: u128)
+    fn push_digits(&mut self, number: u64)
         ensures { written self.new ≡ followed (written self.old) (decimal number) }
     {
         if number < 10 {
@@ -70,6 +70,21 @@ impl Line {
         } else {
             self.push_digits(number / 10);
             self.push_byte(b'0' + (number % 10) as u8);
+        }
+    }
+
+    // Writes a wide number in decimal digits.
+    // A division of 128 bits is dear: once what is left of the number has 64, its digits are written by divisions of 64.
+    #[tactic(auto, using(crate::proofs::Decimals::one_more))]
+    fn push_wide(&mut self, number: u128)
+        ensures { written self.new ≡ followed (written self.old) (decimal number) }
+    {
+        match u64::try_from(number) {
+            Ok(small) => self.push_digits(small),
+            Err(_) => {
+                self.push_wide(number / 10);
+                self.push_byte(b'0' + (number % 10) as u8);
+            }
         }
     }
 
@@ -135,7 +150,7 @@ impl Shown for u64 {
     ghost text = { decimal };
 
     fn show(self, line: &mut Line) {
-        line.push_digits(u128::from(self));
+        line.push_digits(self);
     }
 }
 
@@ -144,7 +159,7 @@ impl Shown for u128 {
     ghost text = { decimal };
 
     fn show(self, line: &mut Line) {
-        line.push_digits(self);
+        line.push_wide(self);
     }
 }
 
