@@ -1,7 +1,7 @@
 //! The margin of positions in a subportfolio.
 ghost use Rattle.std.specs.Prelude.{◌≡◌, ℕ, ◌*◌, ◌<◌, ◌≤◌, length, pos, ◌≤ℤ◌, IfSome, unsigned_abs};
 ghost use Rattle.figures.specs.Figures.{lies_in, loss_in, margin};
-ghost use Rattle.figures.specs.Losses.{lost_together, loses_in, losses_in, at, Added, Holds};
+ghost use Rattle.figures.specs.Losses.{lost_together, loses_in, at, Added};
 ghost use Rattle.figures.specs.Markets.{few, figure_if};
 ghost use Rattle.figures.specs.Positions.{position_of, positions_of};
 ghost use Rattle.figures.specs.Worst.{Greatest};
@@ -10,10 +10,11 @@ use crate::bounds::MOST_SCENARIOS;
 use crate::counting::Together;
 use crate::position::Position;
 use crate::positions::Positions;
-use crate::rows::{Row, add_losses, greatest_of};
+use crate::rows::{add_each, greatest_of};
 use scenario::ScenarioModel;
 
-// Kept as functions of a model, here and below, and so are `moves` and `add_losses`: a margin needs no market price, which a `Market` has.
+// Kept as functions of a model, here and below, and so are `moves`, `add_each` and `add_losses`: a margin needs no market price, which a
+// `Market` has.
 /// Whether a position lies in subportfolio `k`.
 pub(crate) fn lies_in<M: ScenarioModel>(model: &M, k: u8, position: &Position) -> bool
     ensures { result ≡ lies_in (M.ScenarioModel.table model.now) k (position_of position.now) }
@@ -23,34 +24,27 @@ pub(crate) fn lies_in<M: ScenarioModel>(model: &M, k: u8, position: &Position) -
         .is_some_and(|(at, _)| at == k)
 }
 
-/// Counts one more position, where it lies in subportfolio `k`. Its place is asked once.
-fn count_in<M: ScenarioModel>(row: &mut Row, model: &M, position: &Position, k: u8)
-    requires { (s : ℕ) → unsigned_abs (at row.old s) ≤ 1000000000000000000 }
-    ensures { Added row.old row.new ((M.ScenarioModel.table model.now).scenarios k) (λ s. loses_in (M.ScenarioModel.table model.now) (λ c. 0) lost_together k s (position_of position.now)) 1000000000000 }
+/// Counts one more position, where it lies in subportfolio `k`, in as many scenarios as there are sums. Its place is asked once.
+fn count_in<M: ScenarioModel>(sums: &mut [i64], model: &M, position: &Position, k: u8)
+    requires { (length sums.old ≤ 64) × ((s : ℕ) → unsigned_abs (at sums.old s) ≤ 1000000000000000000) }
+    ensures { Added sums.old sums.new (length sums.old) (λ s. loses_in (M.ScenarioModel.table model.now) (λ c. 0) lost_together k s (position_of position.now)) 1000000000000 }
 {
     if lies_in(model, k, position) {
-        add_losses::<M, Together>(row, model, k, position, 0);
+        add_each::<M, Together>(sums, model, position, 0);
     }
 }
 
-/// What positions lose in each scenario of subportfolio `k`.
-fn losses_in<M: ScenarioModel>(model: &M, positions: Positions, k: u8) -> Row
-    ensures { Holds result ((M.ScenarioModel.table model.now).scenarios k) (losses_in (M.ScenarioModel.table model.now) (λ c. 0) lost_together (positions_of positions.entry.all.now) k) (1024 * 1000000000000) }
-{
-    let mut row = [0; MOST_SCENARIOS];
-    for position in positions.all {
-        count_in(&mut row, model, position, k);
-    }
-    row
-}
-
-/// The margin of positions that are few enough.
+/// The margin of positions that are few enough. The model is asked once how many scenarios there are.
 fn margin_of<M: ScenarioModel>(model: &M, positions: Positions, k: u8) -> i64
     ensures value { result ≡ margin (M.ScenarioModel.table model.now) (positions_of positions.entry.all.now) k }
     ensures small { unsigned_abs result ≤ 1024 * 1000000000000 }
 {
-    let row = losses_in(model, positions, k);
-    greatest_of(&row[..usize::from(model.scenarios(k))])
+    let mut row = [0; MOST_SCENARIOS];
+    let sums = &mut row[..usize::from(model.scenarios(k))];
+    for position in positions.all {
+        count_in(sums, model, position, k);
+    }
+    greatest_of(sums)
 }
 
 /// The margin of positions in subportfolio `k`: the most that those which lie there lose together in one of its scenarios. It is not below 0, since nothing moves in scenario 0. `None` where there are more than 1,024 positions.

@@ -47,9 +47,10 @@ impl<'a, M: ScenarioModel> Market<'a, M> {
         ensures value { result ≡ figure_if (has_price self.now.prices.now position.now.contract) (mark (M.ScenarioModel.table self.now.model.now) (market self.now.prices.now) (position_of position.now)) }
         ensures small { IfSome result (λ x. unsigned_abs x ≤ 10000000000000) }
     {
-        self.prices
-            .has(position.contract)
-            .then_some(self.mark_at(position))
+        if !self.prices.has(position.contract) {
+            return None;
+        }
+        Some(self.mark_at(position))
     }
 
     /// The value of a position in a scenario of its subportfolio: its mark and what it gains there. `None` where its contract has no market price.
