@@ -10,6 +10,7 @@ mod terminal;
 
 use desk::serving::serve;
 use purses::purse::Purse;
+use reading::line::InputLine;
 use screen::Screen;
 use sheet_lines::first_order;
 use sheet_set::sets::SheetSet;
@@ -18,12 +19,13 @@ use terminal::Terminal;
 
 // Serves the day of the sheets that were read, if an order begins one.
 fn run(screen: &mut Screen) {
+    let mut line = InputLine::new();
     let mut sheets = SheetSet::new();
-    let Some(order) = first_order(screen, &mut sheets) else {
+    let Some(order) = first_order(screen, &mut line, &mut sheets) else {
         return;
     };
     let count = sheets.len();
-    let mut terminal = Terminal::new(screen, count, order);
+    let mut terminal = Terminal::new(screen, &mut line, count, order);
     let (_session, brought) = serve(sheets.into_model(), Purse::new(), &mut terminal);
     match brought.close() {
         Ok(()) => {}

@@ -20,22 +20,25 @@ fn read_file<'a>(rt: &HostRuntime, path: &str, room: &'a mut [u8]) -> Result<&'a
 }
 
 // Answers a line that names a file.
-fn answer_sheet(screen: &mut Screen, sheets: &mut SheetSet, path: &str) {
-    let mut room = [0; MOST_READ];
-    match read_file(screen.runtime(), path, &mut room) {
+fn answer_sheet(screen: &mut Screen, sheets: &mut SheetSet, path: &str, room: &mut [u8]) {
+    match read_file(screen.runtime(), path, room) {
         Ok(file) => screen.write(add_sheet(sheets, file)),
         Err(why) => screen.report(why),
     }
 }
 
 /// Reads sheets, and tells of them, until the first order comes, which is answered. `None` where none comes.
-pub(crate) fn first_order(screen: &mut Screen, sheets: &mut SheetSet) -> Option<Order> {
-    let mut line = InputLine::new();
+pub(crate) fn first_order(
+    screen: &mut Screen,
+    line: &mut InputLine,
+    sheets: &mut SheetSet,
+) -> Option<Order> {
+    let mut room = [0; MOST_READ];
     for _ in 0..u64::MAX {
-        let reached = screen.read(&mut line)?;
-        match entry_of(reached, &line) {
+        let reached = screen.read(line)?;
+        match entry_of(reached, line) {
             Entry::Nothing => {}
-            Entry::Sheet(path) => answer_sheet(screen, sheets, path),
+            Entry::Sheet(path) => answer_sheet(screen, sheets, path, &mut room),
             Entry::Contract(contract) => screen.write(contract_line(sheets.model(), contract)),
             Entry::Order(order) => return Some(order),
             Entry::Unreadable(why) => screen.report(why),

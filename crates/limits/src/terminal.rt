@@ -17,6 +17,8 @@ use statements::statement::Statement;
 #[derive(Drop)]
 pub(crate) struct Terminal<'a, 'b> {
     screen: &'a mut Screen<'b>,
+    // The line that was read last.
+    line: &'a mut InputLine,
     // How many sheets were read.
     sheets: usize,
     // The order with which the day begins.
@@ -25,9 +27,15 @@ pub(crate) struct Terminal<'a, 'b> {
 
 impl<'a, 'b> Terminal<'a, 'b> {
     /// The desk at a console on which so many sheets were read, and then an order.
-    pub(crate) fn new(screen: &'a mut Screen<'b>, sheets: usize, first: Order) -> Terminal<'a, 'b> {
+    pub(crate) fn new(
+        screen: &'a mut Screen<'b>,
+        line: &'a mut InputLine,
+        sheets: usize,
+        first: Order,
+    ) -> Terminal<'a, 'b> {
         Terminal {
             screen,
+            line,
             sheets,
             first: Some(first),
         }
@@ -47,10 +55,9 @@ impl Desk for Terminal<'_, '_> {
         if let Some(order) = self.first.take() {
             return Some(order);
         }
-        let mut line = InputLine::new();
         for _ in 0..u64::MAX {
-            let reached = self.screen.read(&mut line)?;
-            match entry_of(reached, &line) {
+            let reached = self.screen.read(self.line)?;
+            match entry_of(reached, self.line) {
                 Entry::Nothing => {}
                 Entry::Sheet(_) => self
                     .screen

@@ -1,20 +1,22 @@
--- What is told of an input by a line that was read byte by byte. Assumes nothing.
-use Rattle.std.proofs.Common.{◌≡◌, ◌≢◌, ℕ, zero, suc, le_refl, length-take, ◌+◌, ◌-◌, ◌<◌, ◌≤◌, Bool, true, false, cond, ◌&&◌, ◌||◌, List, [], ◌∷◌, ◌++◌, length, get_or, take, All, None, Some, Ok, Option, sym, refl, ap, subst, ◌∙◌, append-nil, inl, inr, arith, nat_lt, nat_le, ◌==◌, eq-eqb, ne_eqb}
+-- What is told of an input by a line that was read piece by piece. Assumes nothing.
+use Rattle.std.proofs.Common.{◌≡◌, ◌≢◌, ℕ, le_refl, length-take, ◌+◌, ◌-◌, ◌<◌, ◌≤◌, Bool, true, false, cond, ◌&&◌, ◌||◌, List, [], ◌∷◌, ◌++◌, length, get_or, take, All, None, Some, Ok, Option, sym, refl, ap, subst, ◌∙◌, append-nil, inl, inr, arith, nat_lt, ◌==◌, eq-eqb, ne_eqb}
 use Rattle.std.proofs.Math.Seq.{get_or-append_seam}
 use Rattle.std.proofs.lemmas.List.{length-append, take_all, take-append-le}
 use Rattle.std.proofs.lemmas.Bool.{cases_lt, lt-ltb, le-ltb}
 use Rattle.std.proofs.lemmas.Bool.Decides.{nat_tests}
 use Rattle.std.proofs.lemmas.List.Elements.{All-append, All-get_or}
-use Rattle.std.proofs.KnownBytes.{Consumes-trans}
+use Rattle.std.proofs.KnownBytes.{Consumes-trans, Consumes-kept, prepend_known-read}
 use Rattle.std.proofs.BufReadLemmas.{take_through-append, drop_through-append}
-use Rattle.std.specs.Io.KnownBytes.{Consumes, IsAtEnd}
+use Rattle.std.specs.List.{before_first, after_first, list_any}
+use Rattle.std.specs.Io.KnownBytes.{Keeps, Consumes, IsAtEnd, prepend_known}
 use Rattle.std.specs.Io.BufRead.{take_through, drop_through, ends_with_byte, strip_last, first_piece, first_line}
 use Rattle.cells.specs.Listed.{listed}
 use Rattle.lines.proofs.Room.{take_cut}
 use Rattle.reading.specs.declared.line.InputLine.{InputLine}
 use Rattle.reading.specs.declared.line.Reached.{Reached}
 use Rattle.reading.specs.declared.line.Reached.TheVariants.{Line, TooLong, End}
-use Rattle.reading.specs.Lines.{room, byte_list, Holds, TellsOf, Tells}
+use Rattle.reading.specs.Lines.{room, is_feed, Holds, Grown, TellsOf, Tells}
+use Rattle.reading.proofs.Pieces.{fed_piece, unfed_piece, before_unfed}
 
 -- the bytes bs that were read are none of them a line feed, and the line holds them
 pub record Gathered (a b : Option (List ℕ)) (l : InputLine) (bs : List ℕ) : Type 0 where
@@ -23,33 +25,44 @@ pub record Gathered (a b : Option (List ℕ)) (l : InputLine) (bs : List ℕ) : 
   pub held : Holds l bs
   pub running : l.fed ≡ false
 
--- a byte more
-more_over : (n m : ℕ) (o p : Bool) → m ≤ n → (n < room → m ≡ n) → (room ≤ n → m ≡ room) → o ≡ nat_lt room n → p ≡ (o || nat_le room m) → p ≡ nat_lt room (n + 1)
-more_over n m o p low small large is e = grind (arith, nat_tests)
+-- bytes more
+more_over : (n m p : ℕ) (o q : Bool) → m ≤ n → (n < room → m ≡ n) → (room ≤ n → m ≡ room) → o ≡ nat_lt room n → q ≡ (o || nat_lt room (m + p)) → q ≡ nat_lt room (n + p)
+more_over n m p o q low small large is e = grind (arith, nat_tests)
 
-other_byte : (x : ℕ) → x ≢ 10 → All (λ y. y ≢ 10) (x ∷ [])
-other_byte x other zero d within = other
-other_byte x other (suc k) d within = absurd (omega arith)
-
-pub more : (a b c : Option (List ℕ)) (l k : InputLine) (bs : List ℕ) (x : ℕ) → Gathered a b l bs → Consumes b c (x ∷ []) → x ≢ 10 → listed k.bytes ≡ take room (listed l.bytes ++ x ∷ []) → k.over ≡ (l.over || nat_le room (length (listed l.bytes))) → k.fed ≡ l.fed → Gathered a c k (bs ++ x ∷ [])
-more a b c l k bs x g next other bytes over fed =
+more : (a b c : Option (List ℕ)) (l k : InputLine) (bs ps : List ℕ) → Gathered a b l bs → Consumes b c ps → All (λ x. x ≢ 10) ps → Grown l k ps → Gathered a c k (bs ++ ps)
+more a b c l k bs ps g next others grown =
     let cut : length (listed l.bytes) ≡ length (take room bs) = ap length g.held.0 in
-    let longer : k.over ≡ nat_lt room (length (bs ++ x ∷ [])) =
-    more_over (length bs) (length (listed l.bytes)) l.over k.over (omega (arith, length-take room bs)) (λ h. omega (arith, length-take room bs)) (λ h. omega (arith, length-take room bs)) g.held.1 over ∙ ap (nat_lt room) (sym (length-append bs (x ∷ []))) in
+    let longer : k.over ≡ nat_lt room (length (bs ++ ps)) =
+    more_over (length bs) (length (listed l.bytes)) (length ps) l.over k.over (omega (arith, length-take room bs)) (λ h. omega (arith, length-take room bs)) (λ h. omega (arith, length-take room bs)) g.held.1 grown.1 ∙ ap (nat_lt room) (sym (length-append bs ps)) in
     record {
-      read = Consumes-trans a b c bs (x ∷ []) g.read next;
-      unfed = All-append (λ y. y ≢ 10) bs (x ∷ []) g.unfed (other_byte x other);
-      held = (bytes ∙ ap (λ (y : List ℕ). take room (y ++ x ∷ [])) g.held.0 ∙ take_cut room bs (x ∷ []), longer);
-      running = fed ∙ g.running;
+      read = Consumes-trans a b c bs ps g.read next;
+      unfed = All-append (λ y. y ≢ 10) bs ps g.unfed others;
+      held = (grown.0 ∙ ap (λ (y : List ℕ). take room (y ++ ps)) g.held.0 ∙ take_cut room bs ps, longer);
+      running = grown.2 ∙ g.running;
     }
 
--- what came, in other words
-pub came : (a b : Option (List ℕ)) (o p : Option ℕ) → o ≡ p → Consumes a b (byte_list o) → Consumes a b (byte_list p)
-came a b o p same e = subst (λ (x : Option ℕ). Consumes a b (byte_list x)) same e
-
 -- no byte more
-pub kept : (a b c : Option (List ℕ)) (l : InputLine) (bs : List ℕ) → Gathered a b l bs → Consumes b c [] → Gathered a c l bs
-kept a b c l bs g next = record { read = subst (Consumes a c) (append-nil bs) (Consumes-trans a b c bs [] g.read next); unfed = g.unfed; held = g.held; running = g.running }
+pub kept : (a b c : Option (List ℕ)) (l : InputLine) (bs : List ℕ) → Gathered a b l bs → Keeps b c → Gathered a c l bs
+kept a b c l bs g next = record { read = Consumes-kept a b c bs g.read next; unfed = g.unfed; held = g.held; running = g.running }
+
+-- of the bytes, those at hand are xs
+pub hand : (b s t : Option (List ℕ)) (xs : List ℕ) → Keeps b (prepend_known xs t) → s ≡ t → Keeps b (prepend_known xs s)
+hand b s t xs h e = subst (λ (v : Option (List ℕ)). Keeps b (prepend_known xs v)) (sym e) h
+
+-- they move onto the line up to a line feed, and ys stays
+pub with_feed : (a b s : Option (List ℕ)) (l k : InputLine) (bs xs ys : List ℕ) → Gathered a b l bs → Keeps b (prepend_known xs s) → list_any is_feed xs ≡ true → ys ≡ after_first is_feed xs → Grown l k (before_first is_feed xs) → Gathered a (prepend_known (10 ∷ ys) s) k (bs ++ before_first is_feed xs)
+with_feed a b s l k bs xs ys g given any rest grown =
+    let parts : xs ≡ before_first is_feed xs ++ 10 ∷ ys = fed_piece xs any ∙ ap (λ (t : List ℕ). before_first is_feed xs ++ 10 ∷ t) (sym rest) in
+    more a b (prepend_known (10 ∷ ys) s) l k bs (before_first is_feed xs) g (prepend_known-read b s xs (10 ∷ ys) (before_first is_feed xs) ⊥ given parts (λ e. absurd e)).0 (before_unfed xs) grown
+
+pub feed_next : (s : Option (List ℕ)) (ys : List ℕ) → Consumes (prepend_known (10 ∷ ys) s) (prepend_known ys s) (10 ∷ [])
+feed_next None ys = tt
+feed_next (Some zs) ys = refl
+
+pub without_feed : (a b s : Option (List ℕ)) (l k : InputLine) (bs xs ys : List ℕ) → Gathered a b l bs → Keeps b (prepend_known xs s) → list_any is_feed xs ≡ false → ys ≡ after_first is_feed xs → Grown l k (before_first is_feed xs) → Gathered a (prepend_known ys s) k (bs ++ before_first is_feed xs)
+without_feed a b s l k bs xs ys g given none rest grown =
+    let parts : xs ≡ before_first is_feed xs ++ ys = unfed_piece xs none ∙ ap (λ (t : List ℕ). before_first is_feed xs ++ t) (sym rest) in
+    more a b (prepend_known ys s) l k bs (before_first is_feed xs) g (prepend_known-read b s xs ys (before_first is_feed xs) ⊥ given parts (λ e. absurd e)).0 (before_unfed xs) grown
 
 -- the parts of bytes that begin with bs and a line feed
 before_fed : (bs : List ℕ) → length (bs ++ 10 ∷ []) - 1 ≡ length bs

@@ -1,8 +1,8 @@
 //! A line of input.
 
-ghost use Rattle.std.specs.Prelude.{◌≡◌, ◌∷◌, ◌++◌, ◌||◌, ◌==◌, [], true, false, cond, length, take, nat_le, MatchOption, IsUtf8};
+ghost use Rattle.std.specs.Prelude.{◌≡◌, ◌==◌, [], true, false, cond, length, MatchOption, IsUtf8};
 ghost use Rattle.cells.specs.Listed.{listed};
-ghost use Rattle.reading.specs.Lines.{room, shown};
+ghost use Rattle.reading.specs.Lines.{shown, Grown};
 
 use cells::rows::Rows;
 use std::str;
@@ -45,13 +45,24 @@ impl InputLine {
         }
     }
 
-    // Puts a byte behind the others, if there is room.
-    pub(crate) fn push(&mut self, byte: u8)
-        ensures bytes { listed self.new.bytes ≡ take room (listed self.old.bytes ++ byte ∷ []) }
-        ensures over { self.new.over ≡ (self.old.over || nat_le room (length (listed self.old.bytes))) }
-        ensures fed { self.new.fed ≡ self.old.fed }
+    // Begins the line anew, without a byte.
+    pub(crate) fn clear(&mut self)
+        ensures empty { listed self.new.bytes ≡ [] }
+        ensures whole { self.new.over ≡ false }
+        ensures running { self.new.fed ≡ false }
     {
-        if self.bytes.push(byte).is_err() {
+        self.bytes.clear();
+        self.over = false;
+        self.fed = false;
+    }
+
+    // Puts bytes behind the others, as far as there is room.
+    pub(crate) fn push_slice(&mut self, bytes: &[u8])
+        ensures { Grown self.old self.new bytes.now }
+    {
+        let room = ROOM - self.bytes.len();
+        self.bytes.extend_from_slice(bytes);
+        if bytes.len() > room {
             self.over = true;
         }
     }

@@ -99,6 +99,24 @@ impl<T: Copy, const N: usize> Rows<T, N> {
         self.as_slice().get(i).copied()
     }
 
+    /// Rows more, behind the others, as far as there is room for them.
+    pub fn extend_from_slice(&mut self, rows: &[T])
+        ensures { listed self.new ≡ take N (listed self.old ++ rows.now) }
+    {
+        let count = rows.len().min(N - self.used);
+        let end = self.used + count;
+        let cells = &mut self.cells.at[..];
+        cells[self.used..end].copy_from_slice(&rows[..count]);
+        self.used = end;
+    }
+
+    /// Takes every row away.
+    pub fn clear(&mut self)
+        ensures { listed self.new ≡ [] }
+    {
+        self.used = 0;
+    }
+
     /// Takes the row at a place away: those behind it move up. Nothing changes past the last.
     pub fn remove(&mut self, i: usize)
         ensures { listed self.new ≡ take i (listed self.old) ++ drop (i + 1) (listed self.old) }

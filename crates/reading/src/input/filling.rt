@@ -1,15 +1,23 @@
 //! The lines of an input.
 
-ghost use Rattle.std.specs.Prelude.{◌≡◌, ◌≢◌, ◌≤◌, ◌++◌, slice_range, Ok, None, IfOk, IfErr, OnOk};
-ghost use Rattle.std.specs.Io.KnownBytes.{Keeps, Consumes, IsAtEnd};
+ghost use Rattle.std.specs.Prelude.{◌≡◌, ◌≢◌, ◌≤◌, slice_range, IfErr, OnOk};
+ghost use Rattle.std.specs.List.{position, before_first, after_first, list_any};
+ghost use Rattle.std.specs.Io.KnownBytes.{Keeps, IsAtEnd};
 ghost use Rattle.std.specs.IoError.{error_kind};
-ghost use Rattle.reading.specs.Lines.{unread, byte_list, Tells};
+ghost use Rattle.reading.specs.Lines.{unread, is_feed, Grown, Tells};
 
 use crate::input::{CHUNK, Input};
 use crate::line::{InputLine, Reached};
 use crate::start::read_once;
 use std::io;
 use std::io::{ErrorKind, Read};
+
+// The place of the first line feed, `None` where there is none.
+fn feed_in(bytes: &[u8]) -> Option<usize>
+    ensures { result ≡ position is_feed bytes.now }
+{
+    bytes.iter().position(|byte| *byte == b'\n')
+}
 
 impl<R: Read> Input<R> {
     /// An input of which nothing is read yet.
@@ -39,28 +47,26 @@ impl<R: Read> Input<R> {
         Ok(())
     }
 
-    // Takes the first byte that is at hand, if any is.
-    fn take_byte(&mut self) -> Option<u8>
-        ensures bytes { slice_range self.old.chunk self.old.start self.old.end ≡ byte_list result ++ slice_range self.new.chunk self.new.start self.new.end }
+    // Takes what is at hand up to a line feed, puts what stands before that on the line, and tells whether there was one.
+    fn take_piece(&mut self, line: &mut InputLine) -> bool
         ensures source { self.new.source ≡ self.old.source }
-        ensures none { result ≡ None → self.old.end ≤ self.old.start }
+        ensures rest { slice_range self.new.chunk self.new.start self.new.end ≡ after_first is_feed (slice_range self.old.chunk self.old.start self.old.end) }
+        ensures line { Grown line.old line.new (before_first is_feed (slice_range self.old.chunk self.old.start self.old.end)) }
+        ensures fed { result ≡ list_any is_feed (slice_range self.old.chunk self.old.start self.old.end) }
     {
-        if self.start >= self.end {
-            return None;
+        let bytes = &self.chunk[self.start..self.end];
+        match feed_in(bytes) {
+            Some(length) => {
+                line.push_slice(&bytes[..length]);
+                self.start += length + 1;
+                true
+            }
+            None => {
+                line.push_slice(bytes);
+                self.start = self.end;
+                false
+            }
         }
-        let byte = self.chunk[self.start];
-        self.start += 1;
-        Some(byte)
-    }
-
-    // The next byte, `None` at the end of the input.
-    fn next_byte(&mut self) -> io::Result<Option<u8>>
-        ensures bytes { IfOk result (λ o. Consumes (unread R.remaining self.old) (unread R.remaining self.new) (byte_list o)) }
-        ensures end { result ≡ Ok None → IsAtEnd (unread R.remaining self.new) }
-        ensures retried { IfErr result (λ e. error_kind e ≢ ErrorKind.Interrupted) }
-    {
-        self.fill()?;
-        Ok(self.take_byte())
     }
 
     /// Reads the next line, up to its line feed or the end of the input, and no byte more than is at hand then. Of a line that is too
@@ -69,12 +75,14 @@ impl<R: Read> Input<R> {
         ensures tells { Tells (unread R.remaining self.old) (unread R.remaining self.new) result line.new }
         ensures retried { IfErr result (λ e. error_kind e ≢ ErrorKind.Interrupted) }
     {
-        *line = InputLine::new();
+        line.clear();
         for _ in 0..u64::MAX {
-            match self.next_byte()? {
-                Some(b'\n') => return Ok(line.end_by_feed()),
-                Some(byte) => line.push(byte),
-                None => return Ok(line.end_of_input()),
+            self.fill()?;
+            if self.start >= self.end {
+                return Ok(line.end_of_input());
+            }
+            if self.take_piece(line) {
+                return Ok(line.end_by_feed());
             }
         }
         Err(io::Error::from(ErrorKind::Other))

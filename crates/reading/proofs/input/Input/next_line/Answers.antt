@@ -1,24 +1,35 @@
-use Rattle.std.proofs.Common.{◌++◌, ◌∷◌, [], Some, None, Ok, ap, ◌∙◌}
-use Rattle.reading.specs.Lines.{unread}
-use Rattle.reading.proofs.Told.{came, kept, more, told_fed, told_end}
+use Rattle.std.proofs.Common.{◌++◌, ◌∷◌, sym, ap, ◌∙◌}
+use Rattle.std.specs.Io.KnownBytes.{prepend_known}
+use Rattle.std.specs.List.{before_first, slice_range}
+use Rattle.reading.specs.Lines.{unread, is_feed}
+use Rattle.reading.proofs.Told.{kept, hand, with_feed, without_feed, feed_next, told_fed, told_end}
 use Rattle.reading.proofs.input.Input.next_line.Goals as goal
 
-pub returns-in-Some-eq10-clause-tells : goal.returns-in-Some-eq10-clause-tells
-returns-in-Some-eq10-clause-tells g c =
+pub returns-then-self-clause-tells : goal.returns-then-self-clause-tells
+returns-then-self-clause-tells g c =
     let rest = g.R.Read.remaining in
-    let byte = c.in-Some-eq10.is ∙ ap Some c.in-Some-eq10.field-0-test in
-    let next = came (unread rest c.loop.self) (unread rest c.next_byte.new.self) c.in_ok-next_byte.field-0 (Some 10) byte c.in_ok-next_byte.ensures.bytes in
-    told_fed (unread rest c.args.self.now) (unread rest c.loop.self) (unread rest c.next_byte.new.self) c.loop.line c.end_by_feed.new.self c.loop.invariant.0 c.end_by_feed.result c.loop.invariant.1 next c.end_by_feed.ensures.reached c.end_by_feed.ensures.fed c.end_by_feed.ensures.bytes _
+    let gathered = kept (unread rest c.args.self.now) (unread rest c.loop.self) (unread rest c.fill.new.self) c.loop.line c.loop.invariant.0 c.loop.invariant.1 c.fill.ensures.bytes in
+    told_end (unread rest c.args.self.now) (unread rest c.fill.new.self) c.loop.line c.loop.invariant.0 c.end_of_input.result gathered (c.in_ok-fill.ensures.end c.if-self.true) c.end_of_input.ensures _
 
-pub returns-in-None-clause-tells : goal.returns-in-None-clause-tells
-returns-in-None-clause-tells g c =
+pub returns-then-take_piece-clause-tells : goal.returns-then-take_piece-clause-tells
+returns-then-take_piece-clause-tells g c =
     let rest = g.R.Read.remaining in
-    let next = came (unread rest c.loop.self) (unread rest c.next_byte.new.self) c.in_ok-next_byte.field-0 None c.in-None.is c.in_ok-next_byte.ensures.bytes in
-    let gathered = kept (unread rest c.args.self.now) (unread rest c.loop.self) (unread rest c.next_byte.new.self) c.loop.line c.loop.invariant.0 c.loop.invariant.1 next in
-    told_end (unread rest c.args.self.now) (unread rest c.next_byte.new.self) c.loop.line c.loop.invariant.0 c.end_of_input.result gathered (c.in_ok-next_byte.ensures.end (ap Ok c.in-None.is)) c.end_of_input.ensures _
+    let old = c.fill.new.self in
+    let new = c.take_piece.new.self in
+    let xs = slice_range old.chunk old.start old.end in
+    let ys = slice_range new.chunk new.start new.end in
+    let took = c.take_piece.ensures in
+    let given = hand (unread rest c.loop.self) (rest new.source) (rest old.source) xs c.fill.ensures.bytes (ap rest took.source) in
+    let gathered = with_feed (unread rest c.args.self.now) (unread rest c.loop.self) (rest new.source) c.loop.line c.take_piece.new.line c.loop.invariant.0 xs ys c.loop.invariant.1 given (sym took.fed ∙ c.if-take_piece.true) took.rest took.line in
+    told_fed (unread rest c.args.self.now) (prepend_known (10 ∷ ys) (rest new.source)) (unread rest new) c.take_piece.new.line c.end_by_feed.new.self (c.loop.invariant.0 ++ before_first is_feed xs) c.end_by_feed.result gathered (feed_next (rest new.source) ys) c.end_by_feed.ensures.reached c.end_by_feed.ensures.fed c.end_by_feed.ensures.bytes _
 
 pub loop-preserved : goal.loop-preserved
 loop-preserved g c =
     let rest = g.R.Read.remaining in
-    let next = came (unread rest c.loop.self) (unread rest c.next_byte.new.self) c.in_ok-next_byte.field-0 (Some c.in-Some.byte) c.in-Some.is c.in_ok-next_byte.ensures.bytes in
-    (c.loop.invariant.0 ++ c.in-Some.byte ∷ [], more (unread rest c.args.self.now) (unread rest c.loop.self) (unread rest c.next_byte.new.self) c.loop.line c.push.new.self c.loop.invariant.0 c.in-Some.byte c.loop.invariant.1 next c.in-Some.byte-test.1 c.push.ensures.bytes c.push.ensures.over c.push.ensures.fed)
+    let old = c.fill.new.self in
+    let new = c.take_piece.new.self in
+    let xs = slice_range old.chunk old.start old.end in
+    let ys = slice_range new.chunk new.start new.end in
+    let took = c.take_piece.ensures in
+    let given = hand (unread rest c.loop.self) (rest new.source) (rest old.source) xs c.fill.ensures.bytes (ap rest took.source) in
+    (c.loop.invariant.0 ++ before_first is_feed xs, without_feed (unread rest c.args.self.now) (unread rest c.loop.self) (rest new.source) c.loop.line c.take_piece.new.line c.loop.invariant.0 xs ys c.loop.invariant.1 given (sym took.fed ∙ c.if-take_piece.false) took.rest took.line)
