@@ -19,12 +19,21 @@ use replies::notes::Misplaced;
 use scenario::ScenarioModel;
 use sheet_set::sets::SheetSet;
 
-/// The answer to a line that is refused: the refusal's number and its text.
+// Puts the answer to a line that is refused on a line, in place of what stood there.
 #[tactic(auto, using(crate::proofs::Fits::refused_whole))]
+fn put_refused(line: &mut Line, refusal: Refusal)
+    ensures { written line.new ≡ refused_text refusal }
+{
+    line.put(Reply::Refused(refusal));
+}
+
+/// The answer to a line that is refused: the refusal's number and its text.
 pub fn refused_line(refusal: Refusal) -> Line
     ensures { written result ≡ refused_text refusal }
 {
-    Line::of(Reply::Refused(refusal))
+    let mut line = Line::new();
+    put_refused(&mut line, refusal);
+    line
 }
 
 // The answer to a file that was accepted: its place and its kind, how many contracts it has, and how many scenarios.
@@ -58,15 +67,15 @@ pub fn add_sheet(sheets: &mut SheetSet, file: &[u8]) -> Line
     }
 }
 
-// What comes before the shocks of a contract.
-fn heading(contract: u8, place: u8, multiplier: u16) -> Line
-    ensures { written result ≡ followed [] (heading_text contract place multiplier) }
+// Puts what comes before the shocks of a contract on a line, in place of what stood there.
+fn put_heading(line: &mut Line, contract: u8, place: u8, multiplier: u16)
+    ensures { written line.new ≡ followed [] (heading_text contract place multiplier) }
 {
     let place = (
         " subportfolio ",
         (place, (" multiplier ", (multiplier, " shocks"))),
     );
-    Line::of(("contract ", (contract, place)))
+    line.put(("contract ", (contract, place)));
 }
 
 // Writes the shocks of a contract in the first `count` scenarios, each after a space.
@@ -78,13 +87,18 @@ fn add_shocks<M: ScenarioModel>(line: &mut Line, model: &M, contract: u8, count:
     }
 }
 
-// The answer about a contract that lies in a subportfolio.
-fn placed_line<M: ScenarioModel>(model: &M, contract: u8, place: u8, multiplier: u16) -> Line
-    ensures { written result ≡ placed_text (M.ScenarioModel.table model.now) contract (Some (place, multiplier)) }
+// Puts the answer about a contract that lies in a subportfolio on a line, in place of what stood there.
+fn put_placed<M: ScenarioModel>(
+    line: &mut Line,
+    model: &M,
+    contract: u8,
+    place: u8,
+    multiplier: u16,
+)
+    ensures { written line.new ≡ placed_text (M.ScenarioModel.table model.now) contract (Some (place, multiplier)) }
 {
-    let mut line = heading(contract, place, multiplier);
-    add_shocks(&mut line, model, contract, model.scenarios(place));
-    line
+    put_heading(line, contract, place, multiplier);
+    add_shocks(line, model, contract, model.scenarios(place));
 }
 
 // The number of a contract with its subportfolio and its multiplier, `None` where the model does not know it.
@@ -96,13 +110,22 @@ fn placed<M: ScenarioModel>(model: &M, contract: u64) -> Option<(u8, u8, u16)>
     Some((number, place, multiplier))
 }
 
-/// The answer about a contract of a model: its subportfolio, its multiplier, and its shock in each scenario of the
-/// subportfolio; an unknown contract is refused.
+/// Puts the answer about a contract of a model on a line, in place of what stood there: its subportfolio, its
+/// multiplier, and its shock in each scenario of the subportfolio; an unknown contract is refused.
+pub fn put_contract<M: ScenarioModel>(line: &mut Line, model: &M, contract: u64)
+    ensures { written line.new ≡ contract_text (M.ScenarioModel.table model.now) contract }
+{
+    match placed(model, contract) {
+        Some((number, place, multiplier)) => put_placed(line, model, number, place, multiplier),
+        None => put_refused(line, Refusal::Unknown),
+    }
+}
+
+/// The answer about a contract of a model, on a line of its own: what `put_contract` puts on one that is lent.
 pub fn contract_line<M: ScenarioModel>(model: &M, contract: u64) -> Line
     ensures { written result ≡ contract_text (M.ScenarioModel.table model.now) contract }
 {
-    match placed(model, contract) {
-        Some((number, place, multiplier)) => placed_line(model, number, place, multiplier),
-        None => refused_line(Refusal::Unknown),
-    }
+    let mut line = Line::new();
+    put_contract(&mut line, model, contract);
+    line
 }

@@ -1,9 +1,11 @@
 //! Lines in and answers out.
+use answers::put_contract;
 use lines::{Line, Shown};
 use reading::input::Input;
 use reading::line::{InputLine, Reached};
 use replies::day::Reply;
 use replies::notes::Unreadable;
+use scenario::ScenarioModel;
 use std::io;
 use std::io::{ErrorKind, Print, Stdin};
 
@@ -12,6 +14,8 @@ use std::io::{ErrorKind, Print, Stdin};
 pub(crate) struct Screen<'a> {
     rt: &'a HostRuntime,
     input: Input<Stdin>,
+    // The answer that was written last.
+    answer: Line,
     // Whether the input or the output failed: then no line is read or written any more.
     outcome: io::Result<()>,
     // Whether a line was unreadable.
@@ -24,6 +28,7 @@ impl<'a> Screen<'a> {
         Screen {
             rt,
             input: Input::new(rt.stdin()),
+            answer: Line::new(),
             outcome: Ok(()),
             unreadable: false,
         }
@@ -49,17 +54,30 @@ impl<'a> Screen<'a> {
         }
     }
 
-    /// Writes a line, at once.
-    pub(crate) fn write(&mut self, mut line: Line) {
+    // Writes the answer, at once.
+    fn send(&mut self) {
         if self.outcome.is_ok() {
-            line.push("\n");
-            self.outcome = self.rt.write_all(line.as_bytes());
+            self.answer.push("\n");
+            self.outcome = self.rt.write_all(self.answer.as_bytes());
         }
+    }
+
+    /// Writes a line.
+    pub(crate) fn write(&mut self, line: Line) {
+        self.answer = line;
+        self.send();
     }
 
     /// Writes a line of what a value shows.
     pub(crate) fn show<T: Shown>(&mut self, value: T) {
-        self.write(Line::of(value));
+        self.answer.put(value);
+        self.send();
+    }
+
+    /// Writes the answer about a contract of a model.
+    pub(crate) fn show_contract<M: ScenarioModel>(&mut self, model: &M, contract: u64) {
+        put_contract(&mut self.answer, model, contract);
+        self.send();
     }
 
     /// Answers a line that cannot be read, or whose file cannot.

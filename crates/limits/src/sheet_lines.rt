@@ -1,7 +1,7 @@
 //! The sheets that are read before the first order.
 use crate::asked::{Entry, entry_of};
 use crate::screen::Screen;
-use answers::{add_sheet, contract_line};
+use answers::add_sheet;
 use orders::Order;
 use reading::line::InputLine;
 use reading::start::read_start;
@@ -39,7 +39,7 @@ pub(crate) fn first_order(
         match entry_of(reached, line) {
             Entry::Nothing => {}
             Entry::Sheet(path) => answer_sheet(screen, sheets, path, &mut room),
-            Entry::Contract(contract) => screen.write(contract_line(sheets.model(), contract)),
+            Entry::Contract(contract) => screen.show_contract(sheets.model(), contract),
             Entry::Order(order) => return Some(order),
             Entry::Unreadable(why) => screen.report(why),
         }

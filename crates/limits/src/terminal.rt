@@ -2,7 +2,6 @@
 use crate::asked::{Entry, entry_of};
 use crate::replying::{figures_shown, reply_shown, totals_shown};
 use crate::screen::Screen;
-use answers::contract_line;
 use desk::desks::Desk;
 use desk::replies::Reply;
 use orders::Order;
@@ -62,7 +61,7 @@ impl Desk for Terminal<'_, '_> {
                 Entry::Sheet(_) => self
                     .screen
                     .show(day::Reply::Misplaced(Misplaced::AfterFirstCall)),
-                Entry::Contract(contract) => self.screen.write(contract_line(model, contract)),
+                Entry::Contract(contract) => self.screen.show_contract(model, contract),
                 Entry::Order(order) => return Some(order),
                 Entry::Unreadable(why) => self.screen.report(why),
             }

@@ -104,6 +104,14 @@ impl Line {
     {
         value.show(self);
     }
+
+    /// Writes what a value shows, in place of what stood there.
+    pub fn put<T: Shown>(&mut self, value: T)
+        ensures { written self.new ≡ followed [] (T.text value) }
+    {
+        self.bytes.clear();
+        self.push(value);
+    }
 }
 
 /// What can be written on a line.
